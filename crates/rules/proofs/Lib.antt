@@ -1,0 +1,4 @@
+pub mod Loop
+pub mod Checked
+pub mod Computing
+pub mod Cases

@@ -1,0 +1,233 @@
+-- Code 9: the test `hasLoop` says yes exactly where a loop exists.
+-- Yes gives a loop: a segment that the last of n rounds keeps can be walked back from, n times. Each step back comes to a
+-- segment already passed, which closes a loop, or to one of the others, and these are fewer than n.
+-- A loop gives yes: each of its segments follows one of them, so that no round drops any.
+use Prim.Native.Nat.{ℕ, zero, suc, _+_, _≤_, _<_}
+use mathlib.Core.Path.{_≡_, refl, sym, _∙_, ap}
+use mathlib.Core.Logic.{_⊎_, inl, inr, ⊎-map, _↔_}
+use mathlib.Core.Bool.{Bool, true, false, cond, not, _||_, false≢true}
+use mathlib.Core.List.{List, [], _∷_, List·Memᴰ, List·Memᴰ·head, List·Memᴰ·tail, List·Memᴰ·not-nil, List·Memᴰ·eq-of-singleton}
+use native.Mathlib.Decide.{ℕ-discrete}
+use native.Mathlib.Omega.{arith}
+use lib.ListN.{length}
+use Rattle.rules.specs.declared.Table.{Table}
+use Rattle.rules.specs.Rows.{listOf, listFrom}
+use Rattle.rules.specs.Track.{follows}
+use Rattle.rules.specs.Loop.{SegmentOf, Chain, single, more, Loop, anyBefore, following, chainEnds, isEmpty, hasLoop}
+
+infix 60 _∈_
+abbrev _∈_ : ℕ → List ℕ → Type 0
+x ∈ l = List·Memᴰ x l
+
+-- What is left of a list without its member x: one number less, and every other number of it.
+record Rest (x : ℕ) (l : List ℕ) : Type 0 where
+  rest : List ℕ
+  shorter : length l ≡ suc (length rest)
+  others : (y : ℕ) → y ∈ l → (y ≡ x) ⊎ (y ∈ rest)
+
+other-head : {x z y : ℕ} {l : List ℕ} → x ≡ z → y ∈ (z ∷ l) → (y ≡ x) ⊎ (y ∈ l)
+other-head e (List·Memᴰ·head f) = inl (f ∙ sym e)
+other-head e (List·Memᴰ·tail m) = inr m
+
+other-tail : {x z y : ℕ} {l r : List ℕ} → (y ∈ l → (y ≡ x) ⊎ (y ∈ r)) → y ∈ (z ∷ l) → (y ≡ x) ⊎ (y ∈ (z ∷ r))
+other-tail below (List·Memᴰ·head f) = inr (List·Memᴰ·head f)
+other-tail below (List·Memᴰ·tail m) = ⊎-map (λ e. e) List·Memᴰ·tail (below m)
+
+without : {x : ℕ} {l : List ℕ} → x ∈ l → Rest x l
+without (List·Memᴰ·head {xs = l} e) = record { rest = l; shorter = refl; others = λ y. other-head e }
+without (List·Memᴰ·tail {x = z} m) =
+    let r = without m in
+    record { rest = z ∷ r .rest; shorter = ap suc (r .shorter); others = λ y. other-tail (r .others y) }
+
+-- A number that is in one of two lists still is, after a member of the second is moved to the first.
+move : {p s : ℕ} {l free : List ℕ} (w : Rest p free) → (s ∈ l) ⊎ (s ∈ free) → (s ∈ (p ∷ l)) ⊎ (s ∈ w .rest)
+move w (inl m) = inl (List·Memᴰ·tail m)
+move {s} w (inr m) = ⊎-map List·Memᴰ·head (λ k. k) (w .others s m)
+
+-- A list that is not empty has a member, and a list with a member is not empty.
+member : (l : List ℕ) → not (isEmpty l) ≡ true → (s : ℕ) × (s ∈ l)
+unfolding isEmpty
+member [] e = absurd (false≢true e)
+member (s ∷ l) e = (s, List·Memᴰ·head refl)
+
+has-member : (l : List ℕ) {s : ℕ} → s ∈ l → not (isEmpty l) ≡ true
+unfolding isEmpty
+has-member l (List·Memᴰ·head e) = refl
+has-member l (List·Memᴰ·tail m) = refl
+
+-- The list of i, i + 1 and so on, n of them, has n members, and they are the numbers from i up to below i + n.
+from-length : (i n : ℕ) → length (listFrom i n (λ s. s)) ≡ n
+unfolding listFrom
+from-length i zero = refl
+from-length i (suc n) = ap suc (from-length (suc i) n)
+
+from-has : (n i s : ℕ) → i ≤ s → s < i + n → s ∈ listFrom i n (λ s. s)
+unfolding listFrom
+from-has zero i s l h = absurd (omega arith)
+from-has (suc n) i s l h =
+    elim (ℕ-discrete s i) [
+      | yes e ↦ List·Memᴰ·head e
+      | no e ↦ List·Memᴰ·tail (from-has n (suc i) s (omega arith) (omega arith))
+    ]
+
+has-from : (n i s : ℕ) → s ∈ listFrom i n (λ s. s) → (i ≤ s) × (s < i + n)
+unfolding listFrom
+has-from zero i s m = absurd (List·Memᴰ·not-nil m)
+has-from (suc n) i s (List·Memᴰ·head e) = omega arith
+has-from (suc n) i s (List·Memᴰ·tail m) = let h = has-from n (suc i) s m in omega arith
+
+-- A list whose first number stands there only if a test is passed: what it has, and what it has in any case.
+kept : (b : Bool) {x s : ℕ} {l : List ℕ} → x ∈ cond b (s ∷ l) l → ((x ≡ s) × (b ≡ true)) ⊎ (x ∈ l)
+kept true (List·Memᴰ·head e) = inl (e, refl)
+kept true (List·Memᴰ·tail m) = inr m
+kept false m = inr m
+
+keep-tail : (b : Bool) (s : ℕ) {x : ℕ} {l : List ℕ} → x ∈ l → x ∈ cond b (s ∷ l) l
+keep-tail true s m = List·Memᴰ·tail m
+keep-tail false s m = m
+
+-- Of two tests joined by "or".
+one-passed : (a b : Bool) → (a || b) ≡ true → (a ≡ true) ⊎ (b ≡ true)
+one-passed true b e = inl refl
+one-passed false b e = inr e
+
+second-passed : (a : Bool) → (a || true) ≡ true
+second-passed true = refl
+second-passed false = refl
+
+module _ (t : Table) where
+  -- A segment of a list that comes before x.
+  record Before (l : List ℕ) (x : ℕ) : Type 0 where
+    segment : ℕ
+    listed : segment ∈ l
+    before : follows t 0 segment x ≡ true
+
+  -- It is also in any list that has all segments of the first.
+  among : {x : ℕ} {l k : List ℕ} → ((s : ℕ) → s ∈ l → s ∈ k) → Before l x → Before k x
+  among within b = record { segment = b .segment; listed = within (b .segment) (b .listed); before = b .before }
+
+  -- The test `anyBefore` finds it exactly where there is one.
+  any-before : (l : List ℕ) (x : ℕ) → anyBefore t l x ≡ true → Before l x
+  unfolding anyBefore
+  any-before [] x e = absurd (false≢true e)
+  any-before (s ∷ l) x e =
+      elim (one-passed (follows t 0 s x) (anyBefore t l x) e) [
+        | inl f ↦ record { segment = s; listed = List·Memᴰ·head refl; before = f }
+        | inr a ↦ among (λ s. List·Memᴰ·tail) (any-before l x a)
+      ]
+
+  before-any : {l : List ℕ} {s : ℕ} (x : ℕ) → s ∈ l → follows t 0 s x ≡ true → anyBefore t l x ≡ true
+  unfolding anyBefore
+  before-any x (List·Memᴰ·head e) f = rw (← e, f)
+  before-any x (List·Memᴰ·tail {x = y} m) f = rw (before-any x m f) (second-passed (follows t 0 y x))
+
+  -- One round keeps exactly the segments of l that come after one of b.
+  following-has : (b : List ℕ) {l : List ℕ} {x : ℕ} → x ∈ l → Before b x → x ∈ following t b l
+  unfolding following
+  following-has b {x} (List·Memᴰ·head e) f = rw (← e, before-any x (f .listed) (f .before)) (List·Memᴰ·head refl)
+  following-has b (List·Memᴰ·tail {x = s} m) f = keep-tail (anyBefore t b s) s (following-has b m f)
+
+  has-following : (b l : List ℕ) (x : ℕ) → x ∈ following t b l → (x ∈ l) × Before b x
+  unfolding following
+  has-following b [] x m = absurd (List·Memᴰ·not-nil m)
+  has-following b (s ∷ l) x m =
+      elim (kept (anyBefore t b s) m) [
+        | inl p ↦ (List·Memᴰ·head (p .0), rw (p .0) (any-before b s (p .1)))
+        | inr n ↦
+            let r = has-following b l x n in
+            (List·Memᴰ·tail (r .0), r .1)
+      ]
+
+  -- Every round keeps segments of the table only, and before the first round all of them are there.
+  ends-segment : (r s : ℕ) → s ∈ chainEnds t r → SegmentOf t s
+  unfolding chainEnds listOf
+  ends-segment zero s m = let h = has-from (t .n) 1 s m in record { low = h .0; high = omega arith }
+  ends-segment (suc r) s m = ends-segment r s (has-following _ _ s m .0)
+
+  segment-ends : (s : ℕ) → SegmentOf t s → s ∈ chainEnds t zero
+  unfolding chainEnds listOf
+  segment-ends s h = from-has (t .n) 1 s (h .low) (omega arith)
+
+  -- The part of a chain up to one of its segments.
+  up-to : {s z p : ℕ} {l : List ℕ} → Chain t s l z → p ∈ l → (k : List ℕ) × Chain t s k p
+  up-to (single {s = s} h) m = (s ∷ [], rw (List·Memᴰ·eq-of-singleton m) (single h))
+  up-to (more {s = s} h f c) (List·Memᴰ·head e) = (s ∷ [], rw e (single h))
+  up-to (more {s = s} h f c) (List·Memᴰ·tail m) = let r = up-to c m in (s ∷ r .0, more h f (r .1))
+
+  -- A loop is found by walking back from the first segment x of a chain, if r rounds keep x and the segments that the chain
+  -- does not pass are fewer than r.
+  walk-back : (r : ℕ) (free : List ℕ) {x z : ℕ} {l : List ℕ} → Chain t x l z
+      → ((s : ℕ) → SegmentOf t s → (s ∈ l) ⊎ (s ∈ free)) → length free < r → x ∈ chainEnds t r → Loop t
+  unfolding chainEnds
+  walk-back zero free c all h m = absurd (omega arith)
+  walk-back (suc r) free {x} c all h m =
+      let b = has-following _ _ x m .1 in
+      let s = ends-segment r (b .segment) (b .listed) in
+      elim (all (b .segment) s) [
+        | inl k ↦
+            let u = up-to c k in
+            record { first = x; segments = u .0; last = b .segment; chain = u .1; closed = b .before }
+        | inr k ↦
+            let w = without k in
+            walk-back r (w .rest) (more s (b .before) c) (λ y g. move w (all y g)) (omega (arith, w .shorter)) (b .listed)
+      ]
+
+  -- Where the test says yes, there is a loop.
+  pub loop-found : hasLoop t ≡ true → Loop t
+  unfolding hasLoop chainEnds listOf
+  loop-found e =
+      let (s, m) = member _ e in
+      let h = ends-segment (t .n) s m in
+      let w = without (segment-ends s h) in
+      let fewer : length (w .rest) < t .n = omega (arith, w .shorter, from-length 1 (t .n)) in
+      walk-back (t .n) (w .rest) (single h) (λ y g. move w (inr (segment-ends y g))) fewer m
+
+  -- Each segment of a chain is one of the table, and is the chain's first or comes after one of the chain. The chain's last
+  -- is among them. So each segment of a loop comes after one of the loop.
+  chain-segment : {s z x : ℕ} {l : List ℕ} → Chain t s l z → x ∈ l → SegmentOf t x
+  chain-segment (single h) m = rw (List·Memᴰ·eq-of-singleton m) h
+  chain-segment (more h f c) (List·Memᴰ·head e) = rw e h
+  chain-segment (more h f c) (List·Memᴰ·tail m) = chain-segment c m
+
+  chain-before : {s z x : ℕ} {l : List ℕ} → Chain t s l z → x ∈ l → (x ≡ s) ⊎ Before l x
+  chain-before (single h) m = inl (List·Memᴰ·eq-of-singleton m)
+  chain-before (more h f c) (List·Memᴰ·head e) = inl e
+  chain-before (more {s = s} h f c) (List·Memᴰ·tail m) =
+      elim (chain-before c m) [
+        | inl e ↦ inr (record { segment = s; listed = List·Memᴰ·head refl; before = rw e f })
+        | inr b ↦ inr (among (λ s. List·Memᴰ·tail) b)
+      ]
+
+  chain-last : {s z : ℕ} {l : List ℕ} → Chain t s l z → z ∈ l
+  chain-last (single h) = List·Memᴰ·head refl
+  chain-last (more h f c) = List·Memᴰ·tail (chain-last c)
+
+  loop-before : (c : Loop t) {x : ℕ} → x ∈ c .segments → Before (c .segments) x
+  loop-before c m =
+      elim (chain-before (c .chain) m) [
+        | inl e ↦ record { segment = c .last; listed = chain-last (c .chain); before = rw e (c .closed) }
+        | inr b ↦ b
+      ]
+
+  -- Every round keeps the segments of a loop.
+  loop-ends : (c : Loop t) (r : ℕ) {x : ℕ} → x ∈ c .segments → x ∈ chainEnds t r
+  unfolding chainEnds
+  loop-ends c zero {x} m = segment-ends x (chain-segment (c .chain) m)
+  loop-ends c (suc r) m =
+      following-has _ (loop-ends c r m) (among (λ s. loop-ends c r) (loop-before c m))
+
+  -- Where there is a loop, the test says yes.
+  pub found-loop : Loop t → hasLoop t ≡ true
+  unfolding hasLoop
+  found-loop c = has-member _ (loop-ends c (t .n) (chain-last (c .chain)))
+
+  -- The loop law: the test says yes exactly where a loop exists.
+  pub loop-law : (hasLoop t ≡ true) ↔ Loop t
+  loop-law = (loop-found, found-loop)
+
+  -- Where the test says no, no two segments follow each other, and none follows itself.
+  pub no-loop-two : hasLoop t ≡ false → (s x : ℕ) → SegmentOf t s → SegmentOf t x
+      → follows t 0 s x ≡ true → follows t 0 x s ≡ true → ⊥
+  no-loop-two e s x hs hx f g =
+      let c : Loop t = record { first = s; segments = s ∷ x ∷ []; last = x; chain = more hs f (single hx); closed = g } in
+      false≢true (sym e ∙ found-loop c)

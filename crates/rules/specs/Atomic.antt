@@ -1,0 +1,71 @@
+-- Atomic steps (01: whole steps): their order, made from steps and answers alone, and the atomic line (01: whole line), which
+-- takes each granted request whole. The atomic line is a line whose trains have no messages.
+use Prim.Native.Nat.{ℕ}
+use mathlib.Core.Bool.{Bool, false, cond, not, _&&_, _||_}
+use mathlib.Core.List.{List, [], _∷_, _++_}
+use mathlib.Core.Option.{Option, none, some}
+use lib.Dec.{eqb}
+use Rattle.rules.specs.declared.Request.{Request}
+use Rattle.rules.specs.declared.Request.the-variants.{Reserve, Lock}
+use Rattle.rules.specs.declared.Line.{Line}
+use Rattle.rules.specs.declared.Outcome.{Outcome}
+use Rattle.rules.specs.Rows.{first}
+use Rattle.rules.specs.Track.{planAt}
+use Rattle.rules.specs.Line.{around, boxAt, trainAt, requestBox}
+use Rattle.rules.specs.Steps.{Step, Effect, refused, trainAndBox, apply, unless, requestRows, boxRows, granted, withHolding, enter, clear}
+use Rattle.rules.specs.History.{Event}
+
+-- The last request of each train that was answered 0.
+abbrev pub Kept : Type 0
+Kept = ℕ → Option Step
+
+unfoldable pub isRequest : Step → Bool
+isRequest s = eqb (s .kind) 1 || eqb (s .kind) 2
+
+unfoldable pub keep : Kept → Event → Kept
+keep kept e i =
+    cond (isRequest (e .step) && eqb (e .step .train) i && eqb (e .answer) 0) (some (e .step)) (kept i)
+
+unfoldable pub keptStep : Option Step → List Step
+keptStep none = []
+keptStep (some s) = s ∷ []
+
+-- What an event adds to the order: a grant the request that is kept, whole; an accepted move itself; all else nothing.
+unfoldable pub added : Kept → Event → List Step
+added kept e =
+    let s = e .step in
+    cond (not (eqb (e .answer) 0)) []
+    (cond (eqb (s .kind) 3) (keptStep (kept (s .train))) (cond (eqb (s .kind) 5 || eqb (s .kind) 6) (s ∷ []) []))
+
+unfoldable pub orderFrom : Kept → List Event → List Step
+orderFrom kept [] = []
+orderFrom kept (e ∷ rest) = added kept e ++ orderFrom (keep kept e) rest
+
+-- The order of atomic steps (01: the whole-step order) of a list of events from the start.
+unfoldable pub order : List Event → List Step
+order es = orderFrom (λ i. none) es
+
+-- An atomic request: kind 1 or 2, then 3 and 4, in one. Where no code of its rows stops it, the box grants it and the train
+-- records the holding at once.
+unfoldable pub atomicRequest : Line → ℕ → Request → Effect
+atomicRequest l i q =
+    let v = around l i in
+    let r = trainAt l i in
+    let b = requestBox q in
+    let p = planAt (l .table) b in
+    let x = boxAt l b in
+    unless (first (requestRows v r q ++ boxRows v p x q)) (trainAndBox 0 (withHolding v r q) b (granted v p x q))
+
+-- An atomic step: a request, or a move as kind 5 or 6 has it. What is stopped has a code other than 0 and changes nothing.
+unfoldable pub atomicStep : Line → Step → Outcome
+atomicStep l s =
+    let i = s .train in
+    apply l i
+    (cond (eqb (s .kind) 1) (atomicRequest l i (Reserve (s .box)))
+    (cond (eqb (s .kind) 2) (atomicRequest l i (Lock (s .box)))
+    (cond (eqb (s .kind) 5) (enter l i) (cond (eqb (s .kind) 6) (clear l i) (refused 13)))))
+
+-- Some atomic step was stopped.
+unfoldable pub stopped : List Event → Bool
+stopped [] = false
+stopped (e ∷ rest) = not (eqb (e .answer) 0) || stopped rest

@@ -1,0 +1,28 @@
+-- The paper as definitions, in reading order.
+-- Rows of codes and lists counted from 1.
+pub mod Rows
+-- The line: track, boxes, directions.
+pub mod Track
+-- Codes 3, 4 and 6 to 12: a table is accepted.
+pub mod Loop
+pub mod Network
+pub mod Placing
+-- Codes 1 to 5 and 26: the table file, read and written.
+pub mod File
+-- The line record and its start.
+pub mod Line
+-- Steps of kinds 1 to 6, codes 13 to 25.
+pub mod Steps
+-- Code 27: the check of a line record.
+pub mod Record
+-- Demand 3: lists of steps, atomic steps, and the claim.
+pub mod History
+pub mod Atomic
+pub mod Safety
+-- What the program prints.
+pub mod Printout
+-- The cases of 01, and one for each code and each condition.
+pub mod Cases
+pub mod FileCases
+pub mod StepCases
+pub mod RecordCases

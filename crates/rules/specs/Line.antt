@@ -1,0 +1,212 @@
+-- A line (01, "The line"): its boxes and trains by number, its start, and what stands around a train.
+use Prim.Native.Nat.{ℕ, zero, suc, _+_, _-_}
+use mathlib.Core.Bool.{Bool, false, cond, _&&_}
+use mathlib.Core.List.{List}
+use lib.Dec.{eqb}
+use lib.ListN.{replicate}
+use Rattle.rules.specs.declared.BoxPlan.{BoxPlan}
+use Rattle.rules.specs.declared.Table.{Table}
+use Rattle.rules.specs.declared.SwitchBox.{SwitchBox}
+use Rattle.rules.specs.declared.Request.{Request}
+use Rattle.rules.specs.declared.Request.the-variants.{Reserve, Lock}
+use Rattle.rules.specs.declared.Message.{Message}
+use Rattle.rules.specs.declared.Message.the-variants.{Idle, Sent, Answered}
+use Rattle.rules.specs.declared.Train.{Train}
+use Rattle.rules.specs.declared.Line.{Line}
+use Rattle.rules.specs.declared.Outcome.{Outcome}
+use Rattle.rules.specs.Rows.{nth, setNth, listOf, filled}
+use Rattle.rules.specs.Track.{noSegment, noBoxPlan, noTrainPlan, planAt, trainPlanAt, routeAt, farBox, nearBox, isPoint}
+use Rattle.rules.specs.File.{fileCode, decode}
+
+-- 01's numbers for a request: the kind of step that makes it, and its box.
+unfoldable pub requestKind : Request → ℕ
+requestKind (Reserve b) = 1
+requestKind (Lock b) = 2
+
+unfoldable pub requestBox : Request → ℕ
+requestBox (Reserve b) = b
+requestBox (Lock b) = b
+
+-- The numbers of a message's cases: its state (0 none, 1 sent, 2 answered), the kind and box of its request, and the answer's
+-- code; 0 for what a case does not have.
+unfoldable pub messageState : Message → ℕ
+messageState Idle = 0
+messageState (Sent q) = 1
+messageState (Answered q c) = 2
+
+unfoldable pub messageKind : Message → ℕ
+messageKind Idle = 0
+messageKind (Sent q) = requestKind q
+messageKind (Answered q c) = requestKind q
+
+unfoldable pub messageBox : Message → ℕ
+messageBox Idle = 0
+messageBox (Sent q) = requestBox q
+messageBox (Answered q c) = requestBox q
+
+unfoldable pub messageCode : Message → ℕ
+messageCode Idle = 0
+messageCode (Sent q) = 0
+messageCode (Answered q c) = c
+
+-- What is read where a line has no such record.
+abbrev pub noBox : SwitchBox
+noBox = record { sensor = false; position = 0; lock = 0; stem = 0; left = 0; right = 0 }
+
+abbrev pub noTrain : Train
+noTrain =
+    record {
+      direction = 0;
+      length = 0;
+      place = 0;
+      covered = 0;
+      near = false;
+      far = false;
+      lock = false;
+      message = Idle;
+    }
+
+-- Box b and train i of the line, and the line with them replaced.
+unfoldable pub boxAt : Line → ℕ → SwitchBox
+boxAt l b = nth (l .boxes) b noBox
+
+unfoldable pub trainAt : Line → ℕ → Train
+trainAt l i = nth (l .trains) i noTrain
+
+unfoldable pub putTrain : Line → ℕ → Train → Line
+putTrain l i r =
+    record { table = l .table; boxes = l .boxes; trains = setNth (l .trains) i r; routes = l .routes }
+
+unfoldable pub putBox : Line → ℕ → SwitchBox → Line
+putBox l b x =
+    record { table = l .table; boxes = setNth (l .boxes) b x; trains = l .trains; routes = l .routes }
+
+-- The train that a segment s is reserved for at a box, 0 where there is none or the box does not list s; and the box with
+-- that set.
+unfoldable pub holderOf : BoxPlan → SwitchBox → ℕ → ℕ
+holderOf p x s =
+    cond (eqb s (p .stem)) (x .stem) (cond (eqb s (p .left)) (x .left) (cond (eqb s (p .right)) (x .right) 0))
+
+unfoldable pub setHolder : BoxPlan → SwitchBox → ℕ → ℕ → SwitchBox
+setHolder p x s i =
+    record {
+      sensor = x .sensor;
+      position = x .position;
+      lock = x .lock;
+      stem = cond (eqb s (p .stem)) i (x .stem);
+      left = cond (eqb s (p .left)) i (x .left);
+      right = cond (eqb s (p .right)) i (x .right);
+    }
+
+-- The start of train i: single on its first segment, nothing recorded, no message.
+unfoldable pub startTrain : Table → ℕ → Train
+startTrain t i =
+    record {
+      direction = trainPlanAt t i .direction;
+      length = trainPlanAt t i .length;
+      place = 1;
+      covered = 1;
+      near = false;
+      far = false;
+      lock = false;
+      message = Idle;
+    }
+
+-- Train i starts on segment s with box b ahead of it.
+unfoldable pub startsOn : Table → ℕ → ℕ → ℕ → Bool
+startsOn t b s i = eqb (routeAt (t .routes) i 1) s && eqb (farBox t (trainPlanAt t i .direction) s) b
+
+-- The train among 1 .. j that segment s is reserved for at box b at the start, 0 where there is none.
+unfoldable pub startHolder : Table → ℕ → ℕ → ℕ → ℕ
+startHolder t b s zero = 0
+startHolder t b s (suc j) = cond (startsOn t b s (suc j)) (suc j) (startHolder t b s j)
+
+-- The start of box b: sensor passive, position as in the table, no lock, the first segments reserved at the boxes ahead.
+unfoldable pub startBox : Table → ℕ → SwitchBox
+startBox t b =
+    let p = planAt t b in
+    record {
+      sensor = false;
+      position = p .position;
+      lock = 0;
+      stem = startHolder t b (p .stem) (t .k);
+      left = startHolder t b (p .left) (t .k);
+      right = startHolder t b (p .right) (t .k);
+    }
+
+unfoldable pub startLine : Table → Line
+startLine t =
+    record {
+      table = t;
+      boxes = filled 96 noBox (listOf (t .m) (startBox t));
+      trains = filled 16 noTrain (listOf (t .k) (startTrain t));
+      routes = t .routes;
+    }
+
+-- The record that stands beside the code of a refused file. Its version is 0: every call on a line refuses it with 27, and the
+-- writer with 3.
+unfoldable pub emptyTable : Table
+emptyTable =
+    record {
+      version = 0;
+      n = 0;
+      m = 0;
+      k = 0;
+      segments = replicate 96 noSegment;
+      boxes = replicate 96 noBoxPlan;
+      trains = replicate 16 noTrainPlan;
+      routes = replicate 1024 0;
+    }
+
+unfoldable pub emptyLine : Line
+emptyLine =
+    record {
+      table = emptyTable;
+      boxes = replicate 96 noBox;
+      trains = replicate 16 noTrain;
+      routes = replicate 1024 0;
+    }
+
+-- The reader: a file's code, and the start line of its table or, where it is refused, the empty record.
+unfoldable pub read : List ℕ → Outcome
+read bytes =
+    let c = fileCode bytes in
+    cond (eqb c 0) (record { code = 0; line = startLine (decode bytes) }) (record { code = c; line = emptyLine })
+
+-- What stands around a train: its number; the segments at its front, next after it, at its tail and next after the tail
+-- (the front again where two are covered); the box ahead of the front and whether it is a point; the boxes at the near and
+-- the far end of next; and the box between the tail and the segment after it, which is passed when the tail is cleared.
+-- On a route that follows, the near end of next is at the box ahead. Where there is no next, code 16 comes before its use.
+pub record Around : Type 0 where
+  pub number : ℕ
+  pub front : ℕ
+  pub next : ℕ
+  pub tail : ℕ
+  pub second : ℕ
+  pub ahead : ℕ
+  pub point : Bool
+  pub nearEnd : ℕ
+  pub farEnd : ℕ
+  pub passed : ℕ
+
+unfoldable pub around : Line → ℕ → Around
+around l i =
+    let t = l .table in
+    let r = trainAt l i in
+    let segment : ℕ → ℕ = λ p. routeAt (l .routes) i p in
+    let d = r .direction in
+    let front = segment (r .place) in
+    let next = segment (r .place + 1) in
+    let tail = segment (r .place + 1 - r .covered) in
+    record {
+      number = i;
+      front = front;
+      next = next;
+      tail = tail;
+      second = segment (r .place + 2 - r .covered);
+      ahead = farBox t d front;
+      point = isPoint (planAt t (farBox t d front));
+      nearEnd = nearBox t d next;
+      farEnd = farBox t d next;
+      passed = farBox t d tail;
+    }

@@ -1,0 +1,84 @@
+-- The conditions on a table's network (01, codes 3, 4 and 6 to 9). A row applies where some record of the table breaks the
+-- condition, so a code is looked for in all records before the next code.
+use Prim.Native.Nat.{ℕ}
+use mathlib.Core.Bool.{Bool, cond, not, _&&_, _||_}
+use mathlib.Core.List.{List, [], _∷_}
+use lib.Dec.{eqb, leb, ltb}
+use Rattle.rules.specs.declared.BoxPlan.{BoxPlan}
+use Rattle.rules.specs.declared.Table.{Table}
+use Rattle.rules.specs.Rows.{Row, _if_, anyOf, outside}
+use Rattle.rules.specs.Track.{planAt, endA, endB, positionFits, isPoint}
+use Rattle.rules.specs.Loop.{hasLoop}
+
+-- Code 3: the versions that are read.
+unfoldable pub knownVersion : ℕ → Bool
+knownVersion v = eqb v 1
+
+-- Code 4: n, m or k outside its limits.
+unfoldable pub limitsFault : Table → Bool
+limitsFault t = outside 96 (t .n) || (ltb (t .m) 2 || ltb 96 (t .m)) || ltb 16 (t .k)
+
+-- Code 6: an end box 0 or above m, or both ends one box.
+unfoldable pub endsFault : Table → ℕ → Bool
+endsFault t s = outside (t .m) (endA t s) || outside (t .m) (endB t s) || eqb (endA t s) (endB t s)
+
+-- Code 7, a place that a box needs, and one that it does not use.
+unfoldable pub placeFault : ℕ → Bool → ℕ → Bool
+placeFault n needed s = cond needed (outside n s) (not (eqb s 0))
+
+-- Code 7: a kind above 2, a needed segment 0 or above n, an unused place not 0, left = right at a point, a position that
+-- does not fit. The stem is needed at every box, left at links and points, right at points.
+unfoldable pub planFault : ℕ → BoxPlan → Bool
+planFault n p =
+    ltb 2 (p .kind)
+    || outside n (p .stem)
+    || placeFault n (leb 1 (p .kind)) (p .left)
+    || placeFault n (isPoint p) (p .right)
+    || (isPoint p && eqb (p .left) (p .right))
+    || not (positionFits p (p .position))
+
+-- The box lists the segment at one of its places.
+unfoldable pub lists : BoxPlan → ℕ → Bool
+lists p s = eqb (p .stem) s || eqb (p .left) s || eqb (p .right) s
+
+-- Segment s has its A end, or its B end, at box b.
+unfoldable pub hasEndA : Table → ℕ → ℕ → Bool
+hasEndA t s b = eqb (endA t s) b
+
+unfoldable pub hasEndB : Table → ℕ → ℕ → Bool
+hasEndB t s b = eqb (endB t s) b
+
+-- Code 8 at a listed segment: it has no end at the box. An unused place, 0, lists nothing.
+unfoldable pub listedFault : Table → ℕ → ℕ → Bool
+listedFault t b s = not (eqb s 0) && not (hasEndA t s b || hasEndB t s b)
+
+-- Code 8 at a branch: it is on the stem's side of the box, both by their A ends or both by their B ends.
+unfoldable pub sideFault : Table → ℕ → ℕ → ℕ → Bool
+sideFault t b stem s = not (eqb s 0) && ((hasEndA t stem b && hasEndA t s b) || (hasEndB t stem b && hasEndB t s b))
+
+-- Code 8 at a box: a segment listed without an end there, or a branch on the stem's side.
+unfoldable pub boxFault : Table → ℕ → Bool
+boxFault t b =
+    let p = planAt t b in
+    listedFault t b (p .stem)
+    || listedFault t b (p .left)
+    || listedFault t b (p .right)
+    || sideFault t b (p .stem) (p .left)
+    || sideFault t b (p .stem) (p .right)
+
+-- Code 8 at a segment: the box at one of its ends does not list it.
+unfoldable pub unlistedFault : Table → ℕ → Bool
+unlistedFault t s = not (lists (planAt t (endA t s)) s) || not (lists (planAt t (endB t s)) s)
+
+-- The head of the table: codes 3 and 4.
+unfoldable pub headRows : Table → List Row
+headRows t = 3 if not (knownVersion (t .version)) ∷ 4 if limitsFault t ∷ []
+
+-- The network: codes 6 to 9.
+unfoldable pub networkRows : Table → List Row
+networkRows t =
+    6 if anyOf (t .n) (endsFault t)
+    ∷ 7 if anyOf (t .m) (λ b. planFault (t .n) (planAt t b))
+    ∷ 8 if (anyOf (t .m) (boxFault t) || anyOf (t .n) (unlistedFault t))
+    ∷ 9 if hasLoop t
+    ∷ []

@@ -1,0 +1,232 @@
+-- Cases on records made up by hand: for each condition of the record check, 27, and steps on records that no steps reach; and the
+-- list of all cases.
+use Prim.Native.Nat.{ℕ}
+use mathlib.Core.Bool.{true, false}
+use mathlib.Core.List.{List, [], _∷_, _++_}
+use lib.ListN.{set, replicate}
+use Rattle.rules.specs.declared.Request.the-variants.{Reserve, Lock}
+use Rattle.rules.specs.declared.Message.{Message}
+use Rattle.rules.specs.declared.Message.the-variants.{Idle, Sent, Answered}
+use Rattle.rules.specs.declared.SwitchBox.{SwitchBox}
+use Rattle.rules.specs.declared.Line.{Line}
+use Rattle.rules.specs.File.{decode}
+use Rattle.rules.specs.Line.{startLine, emptyLine, noTrain, read, putTrain, putBox}
+use Rattle.rules.specs.Record.{checkedStep}
+use Rattle.rules.specs.Safety.{reached}
+use Rattle.rules.specs.Cases.{Question, checked, checkedTrain, checkedBox, Case, _gives_, stepOf, tableS, oneStart, paperCases}
+use Rattle.rules.specs.FileCases.{linked, fileCases}
+use Rattle.rules.specs.StepCases.{crossing, stepCases}
+
+-- Records made up by hand: table S at its start with another train 1, another box, or other routes.
+abbrev pub startS : Line
+startS = startLine (decode tableS)
+
+abbrev pub withTrain : ℕ → ℕ → ℕ → ℕ → Message → Line
+withTrain d r place covered g =
+    putTrain startS 1
+    (record {
+      direction = d;
+      length = r;
+      place = place;
+      covered = covered;
+      near = false;
+      far = false;
+      lock = false;
+      message = g;
+    })
+
+abbrev pub withBox : ℕ → ℕ → ℕ → ℕ → ℕ → ℕ → Line
+withBox b x lock stem left right =
+    putBox startS b
+    (record { sensor = false; position = x; lock = lock; stem = stem; left = left; right = right })
+
+abbrev pub withRoutes : List ℕ → Line
+withRoutes routes =
+    record { table = startS .table; boxes = startS .boxes; trains = startS .trains; routes = routes }
+
+-- A box record with position 1, which only a point can have.
+abbrev pub onlyPosition : SwitchBox
+onlyPosition = record { sensor = false; position = 1; lock = 0; stem = 0; left = 0; right = 0 }
+
+-- The code of (4,1,0), which is 21 where nothing is to be heard.
+abbrev pub heardOn : Line → Question
+heardOn l = checked l (stepOf 4 1 0)
+
+unfoldable pub recordCases : List Case
+recordCases =
+    heardOn startS gives (21 ∷ [])
+    ∷ heardOn (reached (decode tableS) crossing) gives (21 ∷ [])
+    -- The table part: the empty record, codes 6, 12, 3 and 4.
+    ∷ heardOn emptyLine gives (27 ∷ [])
+    ∷ heardOn (startLine (decode (set tableS 9 1))) gives (27 ∷ [])
+    ∷ heardOn (startLine (decode oneStart)) gives (27 ∷ [])
+    ∷ heardOn (startLine (decode (set tableS 4 2))) gives (27 ∷ [])
+    ∷ heardOn (startLine (decode (set tableS 7 17))) gives (27 ∷ [])
+    -- What the reader leaves: a line, or none.
+    ∷ heardOn (read tableS .line) gives (21 ∷ [])
+    ∷ heardOn (read (tableS ++ (0 ∷ [])) .line) gives (27 ∷ [])
+    -- The route as it stands: another that follows, one that does not, a direction above 1 or against it, lengths 0 and 65.
+    ∷ heardOn (withRoutes (set (startS .routes) 1 3)) gives (21 ∷ [])
+    ∷ heardOn (withRoutes (set (startS .routes) 1 4)) gives (27 ∷ [])
+    ∷ heardOn (withTrain 2 3 1 1 Idle) gives (27 ∷ [])
+    ∷ heardOn (withTrain 1 3 1 1 Idle) gives (27 ∷ [])
+    ∷ heardOn (withTrain 0 0 1 1 Idle) gives (27 ∷ [])
+    ∷ heardOn (withTrain 0 65 1 1 Idle) gives (27 ∷ [])
+    ∷ heardOn (withTrain 2 1 1 1 Idle) gives (27 ∷ [])
+    -- Every train up to k is looked at, and none above.
+    ∷ heardOn (putTrain startS 2 noTrain) gives (27 ∷ [])
+    ∷ heardOn (putTrain startS 3 noTrain) gives (21 ∷ [])
+    -- Places 0 and 4, a tail before the route's start; no segment covered, and three.
+    ∷ heardOn (withTrain 0 3 0 1 Idle) gives (27 ∷ [])
+    ∷ heardOn (withTrain 0 3 4 1 Idle) gives (27 ∷ [])
+    ∷ heardOn (withTrain 0 3 1 2 Idle) gives (27 ∷ [])
+    ∷ heardOn (withTrain 0 3 2 0 Idle) gives (27 ∷ [])
+    ∷ heardOn (withTrain 0 3 3 3 Idle) gives (27 ∷ [])
+    ∷ heardOn (withTrain 0 3 3 2 Idle) gives (21 ∷ [])
+    -- Positions that do not fit, and holders above k.
+    ∷ heardOn (withBox 1 1 0 0 0 0) gives (27 ∷ [])
+    ∷ heardOn (withBox 2 0 0 0 0 0) gives (27 ∷ [])
+    ∷ heardOn (withBox 2 3 0 0 0 0) gives (27 ∷ [])
+    ∷ heardOn (withBox 2 2 2 2 2 2) gives (21 ∷ [])
+    ∷ heardOn (withBox 2 2 3 0 0 0) gives (27 ∷ [])
+    ∷ heardOn (withBox 2 2 0 3 0 0) gives (27 ∷ [])
+    ∷ heardOn (withBox 2 2 0 0 3 0) gives (27 ∷ [])
+    ∷ heardOn (withBox 2 2 0 0 0 3) gives (27 ∷ [])
+    ∷ heardOn (withBox 4 1 0 0 0 0) gives (27 ∷ [])
+    -- Every box up to m is looked at, and none above.
+    ∷ heardOn (putBox startS 5 onlyPosition) gives (21 ∷ [])
+    ∷ heardOn (putBox (startLine (decode linked)) 3 onlyPosition) gives (27 ∷ [])
+    -- At a place that the box lacks: a holder above k, and one up to k.
+    ∷ heardOn (withBox 1 0 0 0 3 0) gives (27 ∷ [])
+    ∷ heardOn (withBox 1 0 0 0 2 0) gives (21 ∷ [])
+    -- Messages that 16 or 17 would stop.
+    ∷ heardOn (withTrain 0 3 1 1 (Sent (Reserve 3))) gives (21 ∷ [])
+    ∷ heardOn (withTrain 0 3 3 1 (Sent (Reserve 3))) gives (27 ∷ [])
+    ∷ heardOn (withTrain 0 3 1 1 (Sent (Reserve 4))) gives (27 ∷ [])
+    ∷ heardOn (withTrain 0 3 1 1 (Sent (Lock 3))) gives (27 ∷ [])
+    ∷ heardOn (withTrain 0 3 1 1 (Answered (Lock 3) 0)) gives (27 ∷ [])
+    ∷ heardOn (withTrain 0 3 3 1 (Answered (Reserve 3) 0)) gives (27 ∷ [])
+    -- Answers: 0 and 22 for a reservation, 0 and 23 to 25 for a lock.
+    ∷ heardOn (withTrain 0 3 1 1 (Answered (Reserve 2) 22)) gives (22 ∷ [])
+    ∷ heardOn (withTrain 0 3 1 1 (Answered (Reserve 2) 21)) gives (27 ∷ [])
+    ∷ heardOn (withTrain 0 3 1 1 (Answered (Reserve 2) 23)) gives (27 ∷ [])
+    ∷ heardOn (withTrain 0 3 1 1 (Answered (Lock 2) 0)) gives (0 ∷ [])
+    ∷ heardOn (withTrain 0 3 1 1 (Answered (Lock 2) 23)) gives (23 ∷ [])
+    ∷ heardOn (withTrain 0 3 1 1 (Answered (Lock 2) 24)) gives (24 ∷ [])
+    ∷ heardOn (withTrain 0 3 1 1 (Answered (Lock 2) 25)) gives (25 ∷ [])
+    ∷ heardOn (withTrain 0 3 1 1 (Answered (Lock 2) 26)) gives (27 ∷ [])
+    ∷ heardOn (withTrain 0 3 1 1 (Answered (Lock 2) 22)) gives (27 ∷ [])
+    -- 27 before 13, and the record as it was.
+    ∷ checked emptyLine (stepOf 0 0 0) gives (27 ∷ [])
+    ∷ checkedTrain (withTrain 0 3 1 2 (Sent (Reserve 2))) (stepOf 3 1 0) 1
+    gives (27 ∷ 0 ∷ 3 ∷ 1 ∷ 2 ∷ 0 ∷ 0 ∷ 0 ∷ 1 ∷ 1 ∷ 2 ∷ 0 ∷ [])
+    ∷ checkedBox (withTrain 0 3 1 2 (Sent (Reserve 2))) (stepOf 3 1 0) 2 gives (27 ∷ 0 ∷ 1 ∷ 0 ∷ 1 ∷ 0 ∷ 0 ∷ [])
+    ∷ []
+
+-- Records that no steps reach: train 1 asks box 2, which has these holders; train 1 crosses box 2, held by train 2 throughout;
+-- train 1 has all it needs to enter and a request open still.
+abbrev pub asking : Message → ℕ → ℕ → ℕ → Line
+asking g lock stem left =
+    putBox (withTrain 0 3 1 1 g) 2
+    (record { sensor = false; position = 1; lock = lock; stem = stem; left = left; right = 0 })
+
+abbrev pub heldByOther : Line
+heldByOther =
+    putBox
+    (putTrain startS 1
+    (record {
+      direction = 0;
+      length = 3;
+      place = 2;
+      covered = 2;
+      near = true;
+      far = false;
+      lock = true;
+      message = Idle;
+    }))
+    2
+    (record { sensor = true; position = 2; lock = 2; stem = 2; left = 2; right = 2 })
+
+abbrev pub openAtEnter : Line
+openAtEnter =
+    putBox
+    (putTrain startS 1
+    (record {
+      direction = 0;
+      length = 3;
+      place = 1;
+      covered = 1;
+      near = true;
+      far = true;
+      lock = true;
+      message = Sent (Reserve 2);
+    }))
+    2
+    (record { sensor = false; position = 1; lock = 2; stem = 0; left = 2; right = 0 })
+
+-- Train 1 with another route as it stands: 1, 3, 4, and back over 4, 2, 1. It asks box 2 for the lock, or box 3 for a
+-- reservation of its next segment.
+abbrev pub overRight : Message → Line
+overRight g =
+    putTrain
+    (putBox (withRoutes (set (startS .routes) 1 3)) 2
+    (record { sensor = false; position = 1; lock = 0; stem = 1; left = 0; right = 1 }))
+    1
+    (record {
+      direction = 0;
+      length = 3;
+      place = 1;
+      covered = 1;
+      near = true;
+      far = false;
+      lock = false;
+      message = g;
+    })
+
+abbrev pub goingBack : Message → Line
+goingBack g =
+    putTrain (withRoutes (set (set (startS .routes) 0 4) 2 1)) 1
+    (record {
+      direction = 1;
+      length = 3;
+      place = 1;
+      covered = 1;
+      near = false;
+      far = false;
+      lock = false;
+      message = g;
+    })
+
+unfoldable pub madeUpCases : List Case
+madeUpCases =
+    -- The route and direction as they stand count, not the table's.
+    checkedBox (overRight (Sent (Lock 2))) (stepOf 3 1 0) 2 gives (0 ∷ 0 ∷ 2 ∷ 1 ∷ 1 ∷ 0 ∷ 1 ∷ [])
+    ∷ checkedBox (overRight (Sent (Reserve 3))) (stepOf 3 1 0) 3 gives (0 ∷ 0 ∷ 1 ∷ 0 ∷ 2 ∷ 0 ∷ 1 ∷ [])
+    ∷ checkedTrain (goingBack Idle) (stepOf 1 1 2) 1 gives (0 ∷ 1 ∷ 3 ∷ 1 ∷ 1 ∷ 0 ∷ 0 ∷ 0 ∷ 1 ∷ 1 ∷ 2 ∷ 0 ∷ [])
+    ∷ checkedTrain (goingBack (Answered (Reserve 2) 0)) (stepOf 4 1 0) 1 gives (0 ∷ 1 ∷ 3 ∷ 1 ∷ 1 ∷ 0 ∷ 1 ∷ replicate 5 0)
+    ∷ checked (goingBack Idle) (stepOf 1 1 4) gives (17 ∷ [])
+    ∷ checkedBox (goingBack (Sent (Reserve 3))) (stepOf 3 1 0) 3 gives (0 ∷ 0 ∷ 1 ∷ 0 ∷ 2 ∷ 1 ∷ 0 ∷ [])
+    -- The train itself is no other holder; 25 by the front alone.
+    ∷ checked (asking (Sent (Reserve 2)) 0 1 1) (stepOf 3 1 0) gives (0 ∷ [])
+    ∷ checked (asking (Sent (Lock 2)) 1 1 1) (stepOf 3 1 0) gives (0 ∷ [])
+    ∷ checked (asking (Sent (Lock 2)) 0 0 1) (stepOf 3 1 0) gives (25 ∷ [])
+    -- Clear frees whoever holds, and keeps position, third segment and records.
+    ∷ checkedBox heldByOther (stepOf 6 1 0) 2 gives (0 ∷ 0 ∷ 2 ∷ 0 ∷ 0 ∷ 0 ∷ 2 ∷ [])
+    ∷ checkedTrain heldByOther (stepOf 6 1 0) 1 gives (0 ∷ 0 ∷ 3 ∷ 2 ∷ 1 ∷ 1 ∷ 0 ∷ 1 ∷ 0 ∷ 0 ∷ 0 ∷ 0 ∷ [])
+    -- Enter asks the train's records alone and keeps the message, which 27 then finds.
+    ∷ checkedTrain openAtEnter (stepOf 5 1 0) 1 gives (0 ∷ 0 ∷ 3 ∷ 2 ∷ 2 ∷ 0 ∷ 0 ∷ 0 ∷ 1 ∷ 1 ∷ 2 ∷ 0 ∷ [])
+    ∷ checkedBox openAtEnter (stepOf 5 1 0) 2 gives (0 ∷ 1 ∷ 1 ∷ 2 ∷ 0 ∷ 2 ∷ 0 ∷ [])
+    ∷ checked (checkedStep openAtEnter (stepOf 5 1 0) .line) (stepOf 4 1 0) gives (27 ∷ [])
+    -- A no: the answer is on its way, and the box is as it was.
+    ∷ checkedTrain openAtEnter (stepOf 3 1 0) 1 gives (22 ∷ 0 ∷ 3 ∷ 1 ∷ 1 ∷ 1 ∷ 1 ∷ 1 ∷ 2 ∷ 1 ∷ 2 ∷ 22 ∷ [])
+    ∷ checkedBox openAtEnter (stepOf 3 1 0) 2 gives (22 ∷ 0 ∷ 1 ∷ 2 ∷ 0 ∷ 2 ∷ 0 ∷ [])
+    -- A no and a yes are heard.
+    ∷ checkedTrain (withTrain 0 3 1 1 (Answered (Reserve 3) 22)) (stepOf 4 1 0) 1
+    gives (22 ∷ 0 ∷ 3 ∷ 1 ∷ 1 ∷ 0 ∷ 0 ∷ 0 ∷ 0 ∷ 0 ∷ 0 ∷ 0 ∷ [])
+    ∷ checkedTrain (withTrain 0 3 1 1 (Answered (Reserve 3) 0)) (stepOf 4 1 0) 1
+    gives (0 ∷ 0 ∷ 3 ∷ 1 ∷ 1 ∷ 0 ∷ 1 ∷ 0 ∷ 0 ∷ 0 ∷ 0 ∷ 0 ∷ [])
+    ∷ []
+
+-- All cases.
+unfoldable pub cases : List Case
+cases = paperCases ++ fileCases ++ stepCases ++ recordCases ++ madeUpCases

@@ -1,0 +1,89 @@
+// The records of a line: the table that the railway writes, and the switch boxes and trains that run by it.
+// What they mean and every rule over them is in specs/, which begins with specs/Lib.antt. There is no code here.
+// Segments, boxes and trains are numbered from 1; record i of an array is the one numbered i + 1.
+
+// A segment: the box at its A end and the box at its B end.
+pub struct Segment {
+    pub a: u8,
+    pub b: u8,
+}
+
+// A switch box in the table: its kind (0 border, 1 link, 2 point), the segments at its three places, and its position
+// (01: lie) at the start: 0, or at a point 1 (stem to left) or 2 (stem to right).
+pub struct BoxPlan {
+    pub kind: u8,
+    pub stem: u8,
+    pub left: u8,
+    pub right: u8,
+    pub position: u8,
+}
+
+// A train in the table: its direction (0 from A ends to B ends, 1 back) and its route's length.
+pub struct TrainPlan {
+    pub direction: u8,
+    pub length: u8,
+}
+
+// The table as read, which no step changes. The routes have 64 places a train.
+pub struct Table {
+    pub version: u16,
+    pub n: u8,
+    pub m: u8,
+    pub k: u8,
+    pub segments: [Segment; 96],
+    pub boxes: [BoxPlan; 96],
+    pub trains: [TrainPlan; 16],
+    pub routes: [u8; 1024],
+}
+
+// A switch box on the line: whether its sensor is active, its position (01: lie), the train that holds its lock, and for
+// each of its places the train that the segment there is reserved for. Nobody is 0.
+pub struct SwitchBox {
+    pub sensor: bool,
+    pub position: u8,
+    pub lock: u8,
+    pub stem: u8,
+    pub left: u8,
+    pub right: u8,
+}
+
+// What a train asks a box for, with the box's number: a reservation of the train's next segment (kind 1), or the lock (kind 2).
+pub enum Request {
+    Reserve(u8),
+    Lock(u8),
+}
+
+// A train's one message: none, a request under way to its box, or the box's answer under way back, with its code.
+pub enum Message {
+    Idle,
+    Sent(Request),
+    Answered(Request, u8),
+}
+
+// A train on the line: its direction and its route's length as they stand; the place of its front on that route, counted
+// from 1, and how many segments it covers; what it has recorded of its next segment: reserved at the near end, at the far
+// end, and the lock of the box ahead; and its message.
+pub struct Train {
+    pub direction: u8,
+    pub length: u8,
+    pub place: u8,
+    pub covered: u8,
+    pub near: bool,
+    pub far: bool,
+    pub lock: bool,
+    pub message: Message,
+}
+
+// A line: the table as read, and the boxes, trains and routes as they stand.
+pub struct Line {
+    pub table: Table,
+    pub boxes: [SwitchBox; 96],
+    pub trains: [Train; 16],
+    pub routes: [u8; 1024],
+}
+
+// What a call on a line ends in: a code, and the line after it.
+pub struct Outcome {
+    pub code: u8,
+    pub line: Line,
+}

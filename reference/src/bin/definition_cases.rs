@@ -1,0 +1,441 @@
+//! Prints generated cases as theorems about the definitions of the crate `rules`, each proved by
+//! computing: codes and bytes of files, the writer's buffer, routes, printouts, lines, places, orders,
+//! atomic lines, atomic steps that are stopped, and single steps on records made up from lines that
+//! steps have reached. `tools/compare-definitions` has them checked.
+//! Arguments: seed, number of cases, steps per case.
+
+use reference::argument::argument;
+use reference::atomic::{atomic_order, fold_places, WholeLine};
+use reference::generate::damage::damaged_file;
+use reference::generate::prng::Prng;
+use reference::generate::steps::Driver;
+use reference::generate::tables::{accepted_table, largest_table};
+use reference::line::*;
+use reference::printout::printout;
+use reference::step::{step, step_checked, Step};
+use reference::table::Table;
+use reference::table_read::read_table;
+use reference::table_write::{file_bytes, write_table};
+
+fn main() {
+    let (seed, cases, steps) = (argument(1, 1), argument(2, 60), argument(3, 40));
+    print!("{HEADER}");
+    for case in 0..cases {
+        let mut rng = Prng::for_case(seed, case);
+        let table = match case % 12 {
+            11 => largest_table(&mut rng),
+            _ => accepted_table(&mut rng),
+        };
+        run_case(&mut rng, case, &table, steps as usize);
+        file_case(&mut rng, case, &table);
+        damaged_case(&mut rng, case, &table);
+        atomic_case(&mut rng, case, &table, steps as usize);
+        made_up_case(&mut rng, case, &table, steps as usize);
+    }
+}
+
+const HEADER: &str = "\
+-- Generated cases: what the second implementation gives is what the definitions give.
+use mathlib.Core.Path.{_≡_, refl}
+use mathlib.Core.Bool.{Bool, true, false}
+use mathlib.Core.List.{List, [], _∷_}
+use Prim.Native.Nat.{ℕ}
+use Rattle.rules.specs.declared.SwitchBox.{SwitchBox}
+use Rattle.rules.specs.declared.Request.the-variants.{Reserve, Lock}
+use Rattle.rules.specs.declared.Message.{Message}
+use Rattle.rules.specs.declared.Message.the-variants.{Idle, Sent, Answered}
+use Rattle.rules.specs.declared.Train.{Train}
+use Rattle.rules.specs.declared.Line.{Line}
+use Rattle.rules.specs.Rows.{filled}
+use Rattle.rules.specs.File.{decode}
+use Rattle.rules.specs.Line.{noBox, noTrain}
+use Rattle.rules.specs.Steps.{Step}
+use Rattle.rules.specs.Cases.{codeOf, rewritten, writtenTo, routeOf, printed, orderOf, placesOf, lineOf, atomicLineOf, atomicAnswersTo, checkedLine, stepOf, found}
+use Rattle.rules.proofs.Computing.{definitions}
+
+made-box : Bool → ℕ → ℕ → ℕ → ℕ → ℕ → SwitchBox
+made-box sensor position lock stem left right =
+    record { sensor = sensor; position = position; lock = lock; stem = stem; left = left; right = right }
+
+made-train : ℕ → ℕ → ℕ → ℕ → Bool → Bool → Bool → Message → Train
+made-train d r place covered near far lock g =
+    record { direction = d; length = r; place = place; covered = covered; near = near; far = far; lock = lock; message = g }
+
+made-line : List ℕ → List ℕ → List Train → List SwitchBox → Line
+made-line bytes routes trains boxes =
+    record { table = decode bytes; boxes = filled 96 noBox boxes; trains = filled 16 noTrain trains; routes = filled 1024 0 routes }
+
+";
+
+/// A theorem: what is found for the question is this list.
+fn theorem(name: &str, question: &str, expected: &[u8]) {
+    println!("{name} : found ({question}) ≡ {}", list(expected));
+    println!("unfolding definitions made-box made-train made-line");
+    println!("{name} = refl\n");
+}
+
+fn list(numbers: &[u8]) -> String {
+    let mut text = String::from("(");
+    for number in numbers {
+        text.push_str(&format!("{number} ∷ "));
+    }
+    text + "[])"
+}
+
+fn step_text([kind, train, number]: Step) -> String {
+    format!("stepOf {kind} {train} {number}")
+}
+
+fn steps_text(steps: &[Step]) -> String {
+    let mut text = String::from("(");
+    for &bytes in steps {
+        text.push_str(&format!("{} ∷ ", step_text(bytes)));
+    }
+    text + "[])"
+}
+
+/// Steps chosen from the line as it stands, with their answers.
+fn drive(rng: &mut Prng, line: &mut Line, steps: usize) -> Vec<(Step, u8)> {
+    let mut driver = Driver::new(rng);
+    let mut events = Vec::new();
+    for _ in 0..steps {
+        let bytes = driver.next_step(rng, line);
+        let answer = step(line, bytes);
+        events.push((bytes, answer));
+    }
+    events
+}
+
+/// An accepted table and a list of steps.
+fn run_case(rng: &mut Prng, case: u64, table: &Table, steps: usize) {
+    let file = file_bytes(table);
+    let mut line = start_line(table);
+    let events = drive(rng, &mut line, steps);
+    let taken: Vec<Step> = events.iter().map(|&(bytes, _)| bytes).collect();
+    let mut input = taken.concat();
+    if rng.chance(40) {
+        input.truncate(input.len().saturating_sub(rng.between(1, 2)));
+    }
+    let order = atomic_order(&events);
+    let mut whole = WholeLine::start(table);
+    let mut stopped = 0;
+    for &bytes in &order {
+        stopped |= u8::from(whole.take(bytes) != 0);
+    }
+    let (bytes, list_of_steps) = (list(&file), steps_text(&taken));
+    theorem(&format!("code-{case}"), &format!("codeOf {bytes}"), &[0]);
+    theorem(&format!("bytes-{case}"), &format!("rewritten {bytes}"), &file);
+    theorem(
+        &format!("text-{case}"),
+        &format!("printed {bytes} {}", list(&input)),
+        &printout(&file, &input),
+    );
+    let mut places = Vec::new();
+    for place in fold_places(table.trains.len(), &events) {
+        places.extend([place.front as u8 + 1, (place.front - place.tail) as u8 + 1]);
+    }
+    theorem(&format!("places-{case}"), &format!("placesOf {bytes} {list_of_steps}"), &places);
+    theorem(&format!("line-{case}"), &format!("lineOf {bytes} {list_of_steps}"), &line_numbers(&line));
+    let mut numbers = vec![stopped];
+    numbers.extend(order.concat());
+    theorem(&format!("order-{case}"), &format!("orderOf {bytes} {list_of_steps}"), &numbers);
+    theorem(
+        &format!("atomic-{case}"),
+        &format!("atomicLineOf {bytes} {list_of_steps}"),
+        &whole_numbers(table, &whole),
+    );
+}
+
+/// The writer's code and buffer, for the table and for one with a number altered; a route as a
+/// part of the file.
+fn file_case(rng: &mut Prng, case: u64, table: &Table) {
+    let mut altered = table.clone();
+    alter_table(rng, &mut altered);
+    for (name, table) in [("written", table), ("rewritten", &altered)] {
+        let file = file_bytes(table);
+        let length = (file.len() + rng.below(5)).saturating_sub(2);
+        let mut buffer = vec![7; length];
+        let mut numbers = vec![write_table(table, &mut buffer).err().unwrap_or(0)];
+        numbers.extend(&buffer);
+        let question = format!("writtenTo (decode {}) {}", list(&file), list(&vec![7; length]));
+        theorem(&format!("{name}-{case}"), &question, &numbers);
+    }
+    let train = rng.below(table.trains.len() + 2);
+    let numbers = match train.checked_sub(1).and_then(|i| table.trains.get(i)) {
+        None => vec![14],
+        Some(entry) => [&[0], entry.route.as_slice()].concat(),
+    };
+    theorem(&format!("route-{case}"), &format!("routeOf {} {train}", list(&file_bytes(table))), &numbers);
+}
+
+/// Alters one number of a table.
+fn alter_table(rng: &mut Prng, table: &mut Table) {
+    let segment = rng.below(table.segments.len());
+    let b = rng.below(table.boxes.len());
+    let number = rng.below(5) as u8;
+    match rng.below(8) {
+        0 => table.version = rng.below(3) as u16,
+        1 => table.segments[segment].a = number,
+        2 => table.segments[segment].b = number,
+        3 => table.boxes[b].kind = number,
+        4 => table.boxes[b].left = number,
+        5 => table.boxes[b].position = number,
+        6 => table.boxes[b].stem = number,
+        _ => {
+            if let Some(last) = table.trains.last_mut() {
+                last.direction ^= 1;
+            }
+        }
+    }
+}
+
+/// Damaged files.
+fn damaged_case(rng: &mut Prng, case: u64, table: &Table) {
+    for damage in 0..4 {
+        let aim = rng.below(20) as u8;
+        let file = damaged_file(rng, table, aim);
+        let code = read_table(&file).err().unwrap_or(0);
+        theorem(&format!("damaged-{case}-{damage}"), &format!("codeOf {}", list(&file)), &[code]);
+    }
+}
+
+/// A list of atomic steps chosen freely, some of them stopped.
+fn atomic_case(rng: &mut Prng, case: u64, table: &Table, steps: usize) {
+    let k = table.trains.len();
+    if k == 0 {
+        return;
+    }
+    let mut whole = WholeLine::start(table);
+    let (mut taken, mut codes) = (Vec::new(), Vec::new());
+    for _ in 0..steps {
+        let train = rng.between(1, k);
+        let (entry, place) = (&table.trains[train - 1], whole.trains[train - 1].place);
+        let next = entry.route.get(place.front + 1).copied().unwrap_or(0);
+        let ends = [table.near_box(next, entry.direction), table.far_box(next, entry.direction)];
+        let kind = rng.pick(&[1, 1, 1, 2, 2, 5, 6]);
+        let number = match kind {
+            1 | 2 if rng.chance(90) => rng.pick(&ends),
+            1 | 2 => rng.below(table.boxes.len() + 2) as u8,
+            _ => 0,
+        };
+        let bytes = [kind, train as u8, number];
+        codes.push(whole.take(bytes));
+        taken.push(bytes);
+    }
+    let mut numbers = vec![u8::from(codes.iter().any(|&code| code != 0))];
+    numbers.extend(&codes);
+    numbers.extend(whole_numbers(table, &whole));
+    theorem(
+        &format!("free-{case}"),
+        &format!("atomicAnswersTo {} {}", list(&file_bytes(table)), steps_text(&taken)),
+        &numbers,
+    );
+}
+
+/// A step on a record that differs in a few places from one that steps have reached.
+fn made_up_case(rng: &mut Prng, case: u64, table: &Table, steps: usize) {
+    for change in 0..4 {
+        let mut line = start_line(table);
+        let length = rng.between(0, steps);
+        drive(rng, &mut line, length);
+        for _ in 0..rng.between(1, 3) {
+            alter(rng, &mut line);
+        }
+        if rng.chance(10) {
+            alter_table(rng, &mut line.table);
+        }
+        let bytes = Driver::new(rng).next_step(rng, &line);
+        let mut after = line.clone();
+        let mut numbers = vec![step_checked(&mut after, bytes)];
+        numbers.extend(line_numbers(&after));
+        theorem(
+            &format!("made-up-{case}-{change}"),
+            &format!("checkedLine {} ({})", line_text(&line), step_text(bytes)),
+            &numbers,
+        );
+    }
+}
+
+/// Alters one part of a record, mostly into something that no steps reach.
+fn alter(rng: &mut Prng, line: &mut Line) {
+    let k = line.trains.len();
+    let holder = rng.below(k + 2) as u8;
+    if k == 0 || rng.chance(40) {
+        let b = rng.below(line.boxes.len());
+        let state = &mut line.boxes[b];
+        match rng.below(6) {
+            0 => state.sensor = !state.sensor,
+            1 => state.position = rng.below(4) as u8,
+            2 => state.lock = holder,
+            place => state.reserved[place - 3] = holder,
+        }
+        return;
+    }
+    let i = rng.below(k);
+    let m = line.boxes.len();
+    let ends = ends_of_next(line, i);
+    let table = line.table.clone();
+    let other = rng.below(k);
+    let train = &mut line.trains[i];
+    match rng.below(12) {
+        0 => train.direction = rng.below(3) as u8,
+        9..=11 => {
+            let entry = &table.trains[other];
+            train.direction = entry.direction;
+            train.route = entry.route.clone();
+            train.front = train.front.min(train.route.len() - 1);
+        }
+        1 => train.front = rng.below(train.route.len() + 1),
+        2 => train.covered = rng.below(4) as u8,
+        3 => {
+            let at = rng.below(train.route.len());
+            train.route[at] = rng.below(table.segments.len() + 2) as u8;
+        }
+        4 => train.route.truncate(rng.between(1, train.route.len())),
+        5 | 6 => {
+            if let Some((next, near, far, ahead)) = ends {
+                train.holdings.add_reservation(&table, next, near);
+                train.holdings.add_reservation(&table, next, far);
+                train.holdings.add_lock(ahead);
+            }
+        }
+        _ => {
+            let wish = rng.pick(&[Wish::Reservation, Wish::Lock]);
+            let number = match ends {
+                Some((_, near, far, _)) if rng.chance(80) => rng.pick(&[near, far]),
+                _ => rng.below(m + 2) as u8,
+            };
+            let request = Request { wish, number };
+            train.message = match rng.below(3) {
+                0 => Message::Sent(request),
+                1 => Message::Answered(request, 0),
+                _ => Message::Answered(request, rng.between(21, 26) as u8),
+            };
+        }
+    }
+}
+
+/// The next segment of a train, the boxes at its near and far end, and the box ahead.
+fn ends_of_next(line: &Line, i: usize) -> Option<(u8, u8, u8, u8)> {
+    let train = &line.trains[i];
+    let next = train.next_segment()?;
+    let table = &line.table;
+    Some((
+        next,
+        table.near_box(next, train.direction),
+        table.far_box(next, train.direction),
+        line.box_ahead(i),
+    ))
+}
+
+/// What a train has recorded of next: near end, far end, lock of the box ahead.
+fn recorded(line: &Line, i: usize) -> [bool; 3] {
+    let holdings = &line.trains[i].holdings;
+    match ends_of_next(line, i) {
+        None => [false; 3],
+        Some((next, near, far, ahead)) => [
+            holdings.reservation(&line.table, next, near),
+            holdings.reservation(&line.table, next, far),
+            holdings.lock(ahead),
+        ],
+    }
+}
+
+/// State, kind, box and code of a message.
+fn message_numbers(message: Message) -> [u8; 4] {
+    let kind = |request: Request| match request.wish {
+        Wish::Reservation => 1,
+        Wish::Lock => 2,
+    };
+    match message {
+        Message::None => [0; 4],
+        Message::Sent(request) => [1, kind(request), request.number, 0],
+        Message::Answered(request, code) => [2, kind(request), request.number, code],
+    }
+}
+
+/// All trains and boxes of a line as numbers.
+fn line_numbers(line: &Line) -> Vec<u8> {
+    let mut numbers = Vec::new();
+    for (i, train) in line.trains.iter().enumerate() {
+        let place = train.front as u8 + 1;
+        numbers.extend([train.direction, train.route.len() as u8, place, train.covered]);
+        numbers.extend(recorded(line, i).map(u8::from));
+        numbers.extend(message_numbers(train.message));
+    }
+    for state in &line.boxes {
+        numbers.extend([u8::from(state.sensor), state.position, state.lock]);
+        numbers.extend(state.reserved);
+    }
+    numbers
+}
+
+/// The same of an atomic line, which has no messages.
+fn whole_numbers(table: &Table, whole: &WholeLine) -> Vec<u8> {
+    let mut numbers = Vec::new();
+    for (entry, train) in table.trains.iter().zip(&whole.trains) {
+        let place = train.place;
+        let covered = (place.front - place.tail) as u8 + 1;
+        numbers.extend([entry.direction, entry.route.len() as u8, place.front as u8 + 1, covered]);
+        let known = |segment: u8, number: u8| u8::from(train.reservations.contains(&(segment, number)));
+        numbers.extend(match entry.route.get(place.front + 1) {
+            None => [0; 3],
+            Some(&next) => [
+                known(next, table.near_box(next, entry.direction)),
+                known(next, table.far_box(next, entry.direction)),
+                u8::from(train.locks.contains(&table.near_box(next, entry.direction))),
+            ],
+        });
+        numbers.extend([0; 4]);
+    }
+    for state in &whole.boxes {
+        numbers.extend([u8::from(state.sensor), state.position, state.lock]);
+        numbers.extend(state.holders);
+    }
+    numbers
+}
+
+/// A record in the text of the definitions.
+fn line_text(line: &Line) -> String {
+    let mut routes = Vec::new();
+    let mut trains = String::from("(");
+    for (i, train) in line.trains.iter().enumerate() {
+        let mut route = train.route.clone();
+        route.resize(64, 0);
+        routes.extend(route);
+        let [near, far, lock] = recorded(line, i);
+        trains.push_str(&format!(
+            "made-train {} {} {} {} {near} {far} {lock} {} ∷ ",
+            train.direction,
+            train.route.len(),
+            train.front + 1,
+            train.covered,
+            message_text(train.message),
+        ));
+    }
+    let mut boxes = String::from("(");
+    for state in &line.boxes {
+        let [stem, left, right] = state.reserved;
+        boxes.push_str(&format!(
+            "made-box {} {} {} {stem} {left} {right} ∷ ",
+            state.sensor, state.position, state.lock
+        ));
+    }
+    format!(
+        "(made-line {} {} {trains}[]) {boxes}[]))",
+        list(&file_bytes(&line.table)),
+        list(&routes)
+    )
+}
+
+fn message_text(message: Message) -> String {
+    let request = |request: Request| match request.wish {
+        Wish::Reservation => format!("(Reserve {})", request.number),
+        Wish::Lock => format!("(Lock {})", request.number),
+    };
+    match message {
+        Message::None => "Idle".into(),
+        Message::Sent(asked) => format!("(Sent {})", request(asked)),
+        Message::Answered(asked, code) => format!("(Answered {} {code})", request(asked)),
+    }
+}

@@ -1,0 +1,64 @@
+//! Checks the third demand on generated steps over generated tables.
+//! Arguments: seed, number of tables, steps per table.
+
+use reference::argument::argument;
+use reference::demand::{Checker, Clauses, CLAUSES};
+use reference::generate::prng::Prng;
+use reference::generate::steps::Driver;
+use reference::generate::tables::{accepted_table, largest_table};
+use reference::line::start_line;
+use reference::line_check::record_code;
+use reference::step::{step, step_checked};
+use reference::table_read::read_table;
+use reference::table_write::file_bytes;
+
+fn main() {
+    let (seed, tables, steps) = (argument(1, 1), argument(2, 1500), argument(3, 1000));
+    let (mut violations, mut entered, mut cleared, mut atomic) = (0u64, 0u64, 0u64, 0u64);
+    let (mut record_checks, mut record_faults) = (0u64, 0u64);
+    let mut broken = Clauses::default();
+    for case in 0..tables {
+        let mut rng = Prng::for_case(seed, case);
+        let made = match case % 10 {
+            9 => largest_table(&mut rng),
+            _ => accepted_table(&mut rng),
+        };
+        let table = read_table(&file_bytes(&made)).expect("generated tables are accepted");
+        let mut line = start_line(&table);
+        let mut checker = Checker::new(&table, &line);
+        let mut driver = Driver::new(&mut rng);
+        let mut note = |clauses: Clauses| {
+            violations += u64::from(!clauses.is_empty());
+            broken.join(clauses);
+        };
+        note(checker.state_clauses(&line));
+        for i in 0..steps {
+            let bytes = driver.next_step(&mut rng, &line);
+            // Now and then the checked entry must give the same line, and a
+            // refused step must leave it as it was.
+            let sample = (i % 16 == 0).then(|| line.clone());
+            let answer = step(&mut line, bytes);
+            entered += u64::from(bytes[0] == 5 && answer == 0);
+            cleared += u64::from(bytes[0] == 6 && answer == 0);
+            note(checker.observe(bytes, answer, &line));
+            if let Some(before) = sample {
+                let mut checked = before.clone();
+                let same = step_checked(&mut checked, bytes) == answer && checked == line;
+                let kept = !(13..=21).contains(&answer) || before == line;
+                record_checks += 1;
+                record_faults += u64::from(!same || !kept || record_code(&line) != 0);
+            }
+        }
+        atomic += checker.order_length;
+    }
+    println!("seed {seed}: {tables} tables, {} steps", tables * steps);
+    println!("entered {entered}, cleared {cleared}, atomic steps {atomic}");
+    println!("records checked against code 27: {record_checks}, faults {record_faults}");
+    for clause in CLAUSES.into_iter().filter(|&c| broken.has(c)) {
+        println!("broken: {clause:?}");
+    }
+    println!("{violations} violations");
+    if violations + record_faults > 0 {
+        std::process::exit(1);
+    }
+}

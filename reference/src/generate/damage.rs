@@ -1,0 +1,210 @@
+//! Damaged files: directed changes for each code 1 to 12 and blind ones.
+//! A directed change may still give another code, or none.
+
+use super::prng::Prng;
+use crate::table::*;
+use crate::table_write::file_bytes;
+
+/// The file of a table, damaged in a way meant for code `aim`. Aims 13 to 16
+/// put two damages in one table, so that the order of codes shows; any
+/// other aim damages blindly.
+pub fn damaged_file(rng: &mut Prng, table: &Table, aim: u8) -> Vec<u8> {
+    let mut t = table.clone();
+    let mut file = file_bytes(&t);
+    match aim {
+        1 => file.truncate(rng.below(8)),
+        2 => file[rng.below(3)] ^= 1 << rng.below(8),
+        3 => file[3 + rng.below(2)] ^= 1 << rng.below(8),
+        4 => {
+            let field = rng.below(3);
+            let wrong: [&[u8]; 3] = [&[0, 97, 98, 255], &[0, 1, 97, 255], &[17, 18, 255]];
+            file[5 + field] = rng.pick(wrong[field]);
+        }
+        5 => change_length(rng, &t, &mut file),
+        6..=12 => {
+            damage_table(rng, &mut t, aim);
+            file = file_bytes(&t);
+        }
+        13..=16 => {
+            let later = rng.between(7, 12) as u8;
+            damage_table(rng, &mut t, later);
+            let earlier = rng.between(6, later as usize - 1) as u8;
+            damage_table(rng, &mut t, earlier);
+            file = file_bytes(&t);
+        }
+        _ => {}
+    }
+    if aim == 0 || aim > 16 {
+        for _ in 0..rng.between(1, 3) {
+            let at = rng.below(file.len());
+            file[at] = match rng.below(3) {
+                0 => rng.byte(),
+                1 => file[at].wrapping_add(1),
+                _ => rng.below(6) as u8,
+            };
+        }
+    }
+    file
+}
+
+/// Damages one record in a way meant for a code from 6 to 12.
+fn damage_table(rng: &mut Prng, t: &mut Table, aim: u8) {
+    match aim {
+        6 => damage_ends(rng, t),
+        7 => damage_box(rng, t),
+        8 => damage_listing(rng, t),
+        9 => close_loop(rng, t),
+        10 => damage_route_shape(rng, t),
+        11 => damage_route(rng, t),
+        _ => repeat_first(rng, t),
+    }
+}
+
+/// 5: bytes missing or too many, or a route length that is not true.
+fn change_length(rng: &mut Prng, t: &Table, file: &mut Vec<u8>) {
+    match rng.below(3) {
+        0 => file.truncate(rng.between(8, file.len() - 1)),
+        1 => {
+            for _ in 0..rng.between(1, 5) {
+                file.push(rng.byte());
+            }
+        }
+        _ => {
+            let at = 8 + 2 * t.segments.len() + 5 * t.boxes.len() + 1;
+            match file.get_mut(at) {
+                Some(r) => *r = r.wrapping_add(1 + rng.below(255) as u8),
+                None => file.push(0),
+            }
+        }
+    }
+}
+
+/// 6: an end without box, or both ends at one.
+fn damage_ends(rng: &mut Prng, t: &mut Table) {
+    let at = rng.below(t.segments.len());
+    let wrong = rng.pick(&[0, t.boxes.len() as u8 + 1, 255]);
+    let s = &mut t.segments[at];
+    match rng.below(3) {
+        0 => s.a = wrong,
+        1 => s.b = wrong,
+        _ => s.a = s.b,
+    }
+}
+
+/// 7: one field of one box.
+fn damage_box(rng: &mut Prng, t: &mut Table) {
+    let wrong = rng.pick(&[0, t.segments.len() as u8 + 1, 255]);
+    let at = rng.below(t.boxes.len());
+    let b = &mut t.boxes[at];
+    match rng.below(7) {
+        0 => b.kind = rng.between(3, 255) as u8,
+        1 => b.kind = (b.kind + 1) % 3,
+        2 => b.stem = wrong,
+        3 => b.left = wrong.max(b.right),
+        4 => b.right = b.left.max(1),
+        5 => b.position = (b.position + 1) % 4,
+        _ => b.position = 3,
+    }
+}
+
+/// 8: places and ends that do not match.
+fn damage_listing(rng: &mut Prng, t: &mut Table) {
+    let at = rng.below(t.boxes.len());
+    let other = rng.between(1, t.segments.len()) as u8;
+    let s = rng.below(t.segments.len());
+    let any_box = rng.between(1, t.boxes.len()) as u8;
+    match rng.below(5) {
+        // One more segment beside another one, in no box's list.
+        0 if t.segments.len() < MAX_SEGMENTS => t.segments.push(t.segments[s]),
+        0 | 4 => t.boxes[at].stem = other,
+        1 => {
+            let points: Vec<usize> = (0..t.boxes.len()).filter(|&i| t.boxes[i].kind == POINT).collect();
+            if !points.is_empty() {
+                let b = &mut t.boxes[rng.pick(&points)];
+                (b.stem, b.left) = (b.left, b.stem);
+            }
+        }
+        2 => {
+            let links: Vec<usize> = (0..t.boxes.len()).filter(|&i| t.boxes[i].kind == LINK).collect();
+            if !links.is_empty() {
+                let left = t.boxes[rng.pick(&links)].left as usize - 1;
+                let segment = &mut t.segments[left];
+                (segment.a, segment.b) = (segment.b, segment.a);
+            }
+        }
+        _ => {
+            if t.segments[s].a != any_box {
+                t.segments[s].b = any_box;
+            }
+        }
+    }
+}
+
+/// 9: a border where tracks start and one where they end, joined to a link.
+fn close_loop(rng: &mut Prng, t: &mut Table) {
+    let borders: Vec<usize> = (0..t.boxes.len()).filter(|&i| t.boxes[i].kind == BORDER).collect();
+    let starts = |t: &Table, i: usize| t.segments[t.boxes[i].stem as usize - 1].a as usize == i + 1;
+    let from: Vec<usize> = borders.iter().copied().filter(|&i| starts(t, i)).collect();
+    let to: Vec<usize> = borders.iter().copied().filter(|&i| !starts(t, i)).collect();
+    if from.is_empty() || to.is_empty() || t.boxes.len() < 3 {
+        return;
+    }
+    let (gone, kept) = (rng.pick(&from), rng.pick(&to));
+    let segment = t.boxes[gone].stem;
+    t.boxes[kept].kind = LINK;
+    t.boxes[kept].left = segment;
+    t.segments[segment as usize - 1].a = kept as u8 + 1;
+    t.boxes.remove(gone);
+    for s in &mut t.segments {
+        for end in [&mut s.a, &mut s.b] {
+            if *end as usize > gone + 1 {
+                *end -= 1;
+            }
+        }
+    }
+}
+
+/// 10: direction or length.
+fn damage_route_shape(rng: &mut Prng, t: &mut Table) {
+    if t.trains.is_empty() {
+        return;
+    }
+    let at = rng.below(t.trains.len());
+    let train = &mut t.trains[at];
+    match rng.below(3) {
+        0 => train.direction = rng.between(2, 255) as u8,
+        1 => train.route.clear(),
+        _ => train.route = vec![train.route[0]; rng.between(65, 255)],
+    }
+}
+
+/// 11: a route that leaves the network or jumps.
+fn damage_route(rng: &mut Prng, t: &mut Table) {
+    if t.trains.is_empty() {
+        return;
+    }
+    let n = t.segments.len();
+    let at = rng.below(t.trains.len());
+    let train = &mut t.trains[at];
+    let place = rng.below(train.route.len());
+    match rng.below(5) {
+        0 => train.route[place] = 0,
+        1 => train.route[place] = rng.between(n + 1, 255) as u8,
+        2 => train.route[place] = rng.between(1, n) as u8,
+        3 => train.direction = 1 - train.direction,
+        _ => train.route.reverse(),
+    }
+}
+
+/// 12: two trains with one first segment.
+fn repeat_first(rng: &mut Prng, t: &mut Table) {
+    if let (true, Some(train)) = (t.trains.len() < MAX_TRAINS, t.trains.last().cloned()) {
+        let first = train.route[0];
+        match rng.chance(50) {
+            true => t.trains.push(train),
+            false => t.trains.insert(0, TrainEntry { direction: rng.below(2) as u8, route: vec![first] }),
+        }
+    } else if t.trains.len() > 1 {
+        t.trains[0] = t.trains[1].clone();
+    }
+}

@@ -1,0 +1,19 @@
+//! Second implementation of the railway line engine, made from the scope
+//! paper alone. Everything here is plain code over vectors and bytes.
+
+pub mod argument;
+pub mod atomic;
+pub mod compare;
+pub mod demand;
+pub mod fault;
+pub mod generate;
+pub mod line;
+pub mod line_check;
+pub mod printout;
+pub mod step;
+pub mod step_move;
+pub mod step_request;
+pub mod table;
+pub mod table_check;
+pub mod table_read;
+pub mod table_write;

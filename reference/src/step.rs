@@ -1,0 +1,64 @@
+//! One step of the line: kinds 1 to 6, codes 13 to 25. Requests and
+//! answers are in `step_request`, moves in `step_move`.
+
+use crate::fault::Fault;
+use crate::line::*;
+use crate::line_check::record_code;
+use crate::step_move::{clear, enter};
+use crate::step_request::{answer, hear, send};
+
+/// A step: kind, train, box.
+pub type Step = [u8; 3];
+
+/// Takes a step on any record: 27 first, then as `step`.
+pub fn step_checked(line: &mut Line, step_bytes: Step) -> u8 {
+    match record_code(line) {
+        0 => step(line, step_bytes),
+        code => code,
+    }
+}
+
+/// Takes a step on a record that holds, and gives its code. The line is as
+/// it was for codes 13 to 21.
+pub fn step(line: &mut Line, step_bytes: Step) -> u8 {
+    step_with(line, step_bytes, Fault::None)
+}
+
+/// As `step`, with a fault switched on.
+pub fn step_with(line: &mut Line, step_bytes: Step, fault: Fault) -> u8 {
+    match fault {
+        Fault::OneCodeRefuses => 13,
+        Fault::OneCodeAccepts => {
+            decide(line, step_bytes, Fault::None);
+            0
+        }
+        _ => decide(line, step_bytes, fault),
+    }
+}
+
+/// The step by its kind.
+fn decide(line: &mut Line, [kind, train, number]: Step, fault: Fault) -> u8 {
+    match kind {
+        1 | 2 => {}
+        3..=6 if number == 0 || fault == Fault::BoxByteIgnored => {}
+        _ if fault == Fault::TrainBeforeKind && no_train(line, train) => return 14,
+        _ => return 13,
+    }
+    if no_train(line, train) {
+        return 14;
+    }
+    let index = train as usize - 1;
+    match kind {
+        1 => send(line, index, Request { wish: Wish::Reservation, number }, fault),
+        2 => send(line, index, Request { wish: Wish::Lock, number }, fault),
+        3 => answer(line, index, fault),
+        4 => hear(line, index, fault),
+        5 => enter(line, index, fault),
+        _ => clear(line, index, fault),
+    }
+}
+
+/// 14: the train byte is 0 or above the number of trains.
+fn no_train(line: &Line, train: u8) -> bool {
+    train == 0 || train as usize > line.trains.len()
+}

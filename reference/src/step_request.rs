@@ -1,0 +1,222 @@
+//! Kinds 1 to 4: the train sends a request, the box answers, the train
+//! hears.
+
+use crate::fault::Fault;
+use crate::line::*;
+use crate::table::POINT;
+
+/// Kinds 1 and 2: the train sends a request.
+pub fn send(line: &mut Line, train: usize, request: Request, fault: Fault) -> u8 {
+    let open = line.trains[train].message != Message::None;
+    let stopped = request_stopped(line, train, request);
+    if fault == Fault::NextBeforeMessage && stopped == 16 {
+        return 16;
+    }
+    if open && fault != Fault::OpenMessageIgnored {
+        return 15;
+    }
+    if fault == Fault::RecordedBeforePlace && holds(line, train, request) {
+        return 18;
+    }
+    if stopped != 0 {
+        return stopped;
+    }
+    if holds(line, train, request) && fault != Fault::AskedAgain {
+        return 18;
+    }
+    if fault == Fault::CrossingMayNotAsk && line.trains[train].crossing() {
+        return 20;
+    }
+    line.trains[train].message = Message::Sent(request);
+    match fault {
+        Fault::RecordedWhenSent => record(line, train, request),
+        Fault::GrantAtSending if box_code(line, train, request, fault) == 0 => {
+            grant(line, train, request, fault)
+        }
+        _ => {}
+    }
+    0
+}
+
+/// 16 or 17 if one of them stops the request, else 0.
+pub fn request_stopped(line: &Line, train: usize, request: Request) -> u8 {
+    let number = request.number;
+    let Some(next) = line.trains[train].next_segment() else {
+        return 16;
+    };
+    let fits = match request.wish {
+        Wish::Reservation => line.table.segment(next).is_some_and(|s| s.a == number || s.b == number),
+        Wish::Lock => number == line.box_ahead(train) && is_point(line, number),
+    };
+    match fits {
+        true => 0,
+        false => 17,
+    }
+}
+
+pub fn is_point(line: &Line, number: u8) -> bool {
+    line.table.switch_box(number).is_some_and(|b| b.kind == POINT)
+}
+
+/// Whether the train has recorded what the request asks for.
+fn holds(line: &Line, train: usize, request: Request) -> bool {
+    let t = &line.trains[train];
+    match request.wish {
+        Wish::Reservation => {
+            let next = t.next_segment().unwrap_or(0);
+            t.holdings.reservation(&line.table, next, request.number)
+        }
+        Wish::Lock => t.holdings.lock(request.number),
+    }
+}
+
+/// The train records what the request asked for.
+fn record(line: &mut Line, train: usize, request: Request) {
+    let t = &mut line.trains[train];
+    match request.wish {
+        Wish::Reservation => {
+            let next = t.next_segment().unwrap_or(0);
+            t.holdings.add_reservation(&line.table, next, request.number);
+        }
+        Wish::Lock => t.holdings.add_lock(request.number),
+    }
+}
+
+/// Kind 3: the box answers the sent message.
+pub fn answer(line: &mut Line, train: usize, fault: Fault) -> u8 {
+    let request = match line.trains[train].message {
+        Message::Sent(request) => request,
+        Message::Answered(request, _) if fault == Fault::AnswersAgain => request,
+        _ => return 21,
+    };
+    let code = match fault {
+        Fault::GrantAtSending => show_code(line, train, request),
+        _ => box_code(line, train, request, fault),
+    };
+    if code == 0 {
+        grant(line, train, request, fault);
+    }
+    let at_grant = matches!(fault, Fault::RecordedWhenGranted | Fault::GrantIsHearing);
+    if at_grant && code == 0 {
+        record(line, train, request);
+    }
+    line.trains[train].message = match fault {
+        Fault::NoNeedsNoHearing if code != 0 => Message::None,
+        _ => Message::Answered(request, code),
+    };
+    code
+}
+
+/// The decision of the box: 0 yes, 22 to 25 no.
+fn box_code(line: &Line, train: usize, request: Request, fault: Fault) -> u8 {
+    let me = (train + 1) as u8;
+    let number = request.number;
+    let front = line.trains[train].front_segment();
+    let next = line.trains[train].next_segment().unwrap_or(0);
+    let state = line.box_state(number).copied().unwrap_or_default();
+    let other = |holder: u8| holder != 0 && holder != me;
+    match request.wish {
+        Wish::Reservation => {
+            let holder = line.reservation(next, number);
+            match fault {
+                Fault::BoxesAlwaysNo => 22,
+                Fault::No22WithoutHolder if holder == 0 && number % 2 == 1 => 22,
+                Fault::ReservationTakenOver => 0,
+                Fault::OwnSegmentRefused if holder == me => 22,
+                _ if other(holder) => 22,
+                _ => 0,
+            }
+        }
+        Wish::Lock => {
+            let active = state.sensor && fault != Fault::SensorNotAsked;
+            let locked = other(state.lock) && fault != Fault::LockTakenOver;
+            let missing = missing_here(line, me, front, next, number, fault);
+            match fault {
+                Fault::BoxesAlwaysNo => 24,
+                Fault::LockAlwaysGiven => 0,
+                Fault::No24WithoutHolder if state.lock == 0 && number % 2 == 1 => 24,
+                Fault::LockBeforeSensor if locked => 24,
+                Fault::ReservationsFirst if missing => 25,
+                _ if active => 23,
+                _ if locked => 24,
+                _ if missing => 25,
+                _ => 0,
+            }
+        }
+    }
+}
+
+/// The answer as a show: yes only if the box gave at sending.
+fn show_code(line: &Line, train: usize, request: Request) -> u8 {
+    let me = (train + 1) as u8;
+    let next = line.trains[train].next_segment().unwrap_or(0);
+    let lock = line.box_state(request.number).map_or(0, |b| b.lock);
+    match request.wish {
+        Wish::Reservation if line.reservation(next, request.number) == me => 0,
+        Wish::Lock if lock == me => 0,
+        Wish::Reservation => 22,
+        Wish::Lock => box_code(line, train, request, Fault::None).max(23),
+    }
+}
+
+/// Whether front or next is not reserved for the train at the box.
+fn missing_here(line: &Line, me: u8, front: u8, next: u8, number: u8, fault: Fault) -> bool {
+    let front_missing = line.reservation(front, number) != me;
+    let next_missing = line.reservation(next, number) != me;
+    match fault {
+        Fault::LockNeedsNoReservation => false,
+        Fault::LockNeedsNextOnly => next_missing,
+        Fault::LockNeedsFrontOnly => front_missing,
+        _ => front_missing || next_missing,
+    }
+}
+
+/// The box says yes: the holder is set, or position and lock.
+fn grant(line: &mut Line, train: usize, request: Request, fault: Fault) {
+    let me = (train + 1) as u8;
+    let front = line.trains[train].front_segment();
+    let next = line.trains[train].next_segment().unwrap_or(0);
+    match request.wish {
+        Wish::Reservation => {
+            line.set_reservation(next, request.number, me);
+            if fault == Fault::ReservesBothEnds {
+                let far = line.table.far_box(next, line.trains[train].direction);
+                line.set_reservation(next, far, me);
+            }
+        }
+        Wish::Lock => {
+            let b = line.table.switch_box(request.number).copied().unwrap_or_default();
+            if let Some(state) = line.box_state_mut(request.number) {
+                state.lock = me;
+                match fault {
+                    Fault::PositionNotSet | Fault::PositionSetAtEnter => {}
+                    Fault::PositionByNextOnly => {
+                        state.position = if b.right == next { 2 } else { 1 }
+                    }
+                    Fault::PositionTurned => state.position = 3 - b.joining(front, next).clamp(1, 2),
+                    _ => state.position = b.joining(front, next),
+                }
+            }
+        }
+    }
+}
+
+/// Kind 4: the train hears the answer; the message is gone.
+pub fn hear(line: &mut Line, train: usize, fault: Fault) -> u8 {
+    let (request, code) = match line.trains[train].message {
+        Message::Answered(request, code) => (request, code),
+        Message::Sent(request) if fault == Fault::HearsUnanswered => (request, 0),
+        _ => return 21,
+    };
+    let heard = code == 0 && fault != Fault::GrantIsHearing;
+    if heard || fault == Fault::NoHeardAsYes {
+        record(line, train, request);
+    }
+    if code == 0 || fault != Fault::NoStaysOpen {
+        line.trains[train].message = Message::None;
+    }
+    match fault {
+        Fault::NoHeardIsZero => 0,
+        _ => code,
+    }
+}

@@ -1,0 +1,113 @@
+//! From file bytes to a table: codes 1 to 5 here, 6 to 12 by the rules of
+//! the table part.
+
+use crate::fault::Fault;
+use crate::table::*;
+use crate::table_check::{body_code_with, counts_fit};
+
+/// The three bytes a table file begins with.
+pub const MARK: [u8; 3] = [0x4E, 0x45, 0x54];
+
+/// The lent bytes together with the place of the next record.
+struct Reader<'a> {
+    bytes: &'a [u8],
+    next: usize,
+}
+
+impl<'a> Reader<'a> {
+    /// The next `count` bytes, or nothing if fewer are left.
+    fn take(&mut self, count: usize) -> Option<&'a [u8]> {
+        let part = self.bytes.get(self.next..)?.get(..count)?;
+        self.next += count;
+        Some(part)
+    }
+
+    /// The direction and route of the next train record.
+    fn train(&mut self) -> Option<(u8, &'a [u8])> {
+        let head = self.take(2)?;
+        Some((head[0], self.take(head[1] as usize)?))
+    }
+}
+
+/// Reads a table, or gives the code that refuses the file.
+pub fn read_table(bytes: &[u8]) -> Result<Table, u8> {
+    read_table_with(bytes, Fault::None)
+}
+
+/// As `read_table`, with a fault switched on.
+pub fn read_table_with(bytes: &[u8], fault: Fault) -> Result<Table, u8> {
+    let (version, n, m, k) = read_head(bytes)?;
+    let mut reader = Reader { bytes, next: 8 };
+    let table = read_body(&mut reader, version, n, m, k).ok_or(5)?;
+    let short_or_long = |t: &TrainEntry| t.route.is_empty() || t.route.len() > MAX_ROUTE;
+    if fault == Fault::RouteLengthBeforeFileLength && table.trains.iter().any(short_or_long) {
+        return Err(10);
+    }
+    if reader.next != bytes.len() && fault != Fault::TrailingBytesTaken {
+        return Err(5);
+    }
+    match body_code_with(&table, fault) {
+        0 => Ok(table),
+        code => Err(code),
+    }
+}
+
+/// The route of a train as a part of the lent file. `None` if the file is
+/// refused or has no such train.
+pub fn route_in_file(bytes: &[u8], train: u8) -> Option<&[u8]> {
+    let table = read_table(bytes).ok()?;
+    if train == 0 || train as usize > table.trains.len() {
+        return None;
+    }
+    let next = 8 + 2 * table.segments.len() + 5 * table.boxes.len();
+    let mut reader = Reader { bytes, next };
+    for _ in 1..train {
+        reader.train()?;
+    }
+    reader.train().map(|(_, route)| route)
+}
+
+/// Codes 1 to 4; version and the three counts.
+fn read_head(bytes: &[u8]) -> Result<(u16, usize, usize, usize), u8> {
+    if bytes.len() < 8 {
+        return Err(1);
+    }
+    if bytes[..3] != MARK {
+        return Err(2);
+    }
+    let version = u16::from_be_bytes([bytes[3], bytes[4]]);
+    if version != VERSION {
+        return Err(3);
+    }
+    let (n, m, k) = (bytes[5] as usize, bytes[6] as usize, bytes[7] as usize);
+    if !counts_fit(n, m, k) {
+        return Err(4);
+    }
+    Ok((version, n, m, k))
+}
+
+/// All records, or nothing where the file ends within them.
+fn read_body(reader: &mut Reader, version: u16, n: usize, m: usize, k: usize) -> Option<Table> {
+    let segments = reader
+        .take(2 * n)?
+        .chunks(2)
+        .map(|r| Segment { a: r[0], b: r[1] })
+        .collect();
+    let boxes = reader
+        .take(5 * m)?
+        .chunks(5)
+        .map(|r| SwitchBox {
+            kind: r[0],
+            stem: r[1],
+            left: r[2],
+            right: r[3],
+            position: r[4],
+        })
+        .collect();
+    let mut trains = Vec::new();
+    for _ in 0..k {
+        let (direction, route) = reader.train()?;
+        trains.push(TrainEntry { direction, route: route.to_vec() });
+    }
+    Some(Table { version, segments, boxes, trains })
+}

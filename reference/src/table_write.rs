@@ -1,0 +1,46 @@
+//! From a table to a lent buffer.
+
+use crate::table::*;
+use crate::table_check::table_code;
+use crate::table_read::MARK;
+
+/// Writes the file of the table to the front of the buffer and gives its
+/// length. Refused: the code, the buffer as it was. Bytes beyond the file
+/// stay as they were.
+pub fn write_table(table: &Table, buffer: &mut [u8]) -> Result<usize, u8> {
+    match table_code(table) {
+        0 => {}
+        code => return Err(code),
+    }
+    let file = file_bytes(table);
+    match buffer.get_mut(..file.len()) {
+        None => Err(26),
+        Some(front) => {
+            front.copy_from_slice(&file);
+            Ok(file.len())
+        }
+    }
+}
+
+/// The bytes of a table; counts and lengths are cut to their bytes, so
+/// only a table whose counts fit comes back from them.
+pub fn file_bytes(table: &Table) -> Vec<u8> {
+    let mut file = Vec::with_capacity(table.file_length());
+    file.extend_from_slice(&MARK);
+    file.extend_from_slice(&table.version.to_be_bytes());
+    file.push(table.segments.len() as u8);
+    file.push(table.boxes.len() as u8);
+    file.push(table.trains.len() as u8);
+    for s in &table.segments {
+        file.extend_from_slice(&[s.a, s.b]);
+    }
+    for b in &table.boxes {
+        file.extend_from_slice(&[b.kind, b.stem, b.left, b.right, b.position]);
+    }
+    for t in &table.trains {
+        file.push(t.direction);
+        file.push(t.route.len() as u8);
+        file.extend_from_slice(&t.route);
+    }
+    file
+}

@@ -1,0 +1,156 @@
+//! Every list of steps on small tables: all lines that can be reached, with
+//! the third demand checked at each.
+
+mod common;
+use common::*;
+use reference::demand::Checker;
+use reference::fault::Fault;
+use reference::line::{start_line, start_line_with, Line};
+use reference::line_check::record_code;
+use reference::step::{step, step_with, Step};
+use reference::table::Table;
+use reference::table_check::table_code;
+use std::collections::{BTreeSet, HashSet};
+
+/// All steps that differ in what they do, and some garbage.
+fn all_steps(table: &Table) -> Vec<Step> {
+    let k = table.trains.len() as u8;
+    let m = table.boxes.len() as u8;
+    let mut steps = vec![[0, 1, 0], [7, 1, 0], [3, 1, 1], [1, 0, 1], [5, k + 1, 0], [255; 3]];
+    for train in 1..=k {
+        for number in 0..=m + 1 {
+            steps.push([1, train, number]);
+            steps.push([2, train, number]);
+        }
+        steps.extend((3..=6).map(|kind| [kind, train, 0]));
+    }
+    steps
+}
+
+/// Searches all reachable lines; gives their number and the codes seen.
+fn search(table: &Table) -> (usize, BTreeSet<u8>) {
+    assert_eq!(table_code(table), 0);
+    let start = start_line(table);
+    let first = Checker::new(table, &start);
+    assert!(first.state_clauses(&start).is_empty());
+    let mut seen = HashSet::from([(start.boxes.clone(), start.trains.clone(), first.state())]);
+    let mut open = vec![(start, first)];
+    let mut codes = BTreeSet::new();
+    let steps = all_steps(table);
+    while let Some((line, checker)) = open.pop() {
+        for &bytes in &steps {
+            let (mut line, mut checker) = (line.clone(), checker.clone());
+            let before = (line.boxes.clone(), line.trains.clone());
+            let answer = step(&mut line, bytes);
+            codes.insert(answer);
+            let broken = checker.observe(bytes, answer, &line);
+            assert!(broken.is_empty(), "{bytes:?} {answer} {broken:?} {line:?}");
+            if (13..=21).contains(&answer) {
+                assert_eq!(before, (line.boxes.clone(), line.trains.clone()));
+            }
+            if seen.insert((line.boxes.clone(), line.trains.clone(), checker.state())) {
+                assert_eq!(record_code(&line), 0);
+                open.push((line, checker));
+            }
+        }
+    }
+    (seen.len(), codes)
+}
+
+#[test]
+fn all_lists_on_s() {
+    let (lines, codes) = search(&s_with(&[(0, &[1, 2, 4]), (1, &[4, 3, 1])]));
+    println!("{lines} lines, codes {codes:?}");
+    let (lines, codes) = search(&s_with(&[(0, &[1, 2, 4]), (1, &[4, 2, 1])]));
+    println!("{lines} lines, codes {codes:?}");
+}
+
+#[test]
+fn all_lists_of_two_that_follow() {
+    let (lines, codes) = search(&s_with(&[(0, &[2, 4]), (0, &[3, 4])]));
+    println!("{lines} lines, codes {codes:?}");
+    let expected: BTreeSet<u8> = [0].into_iter().chain(13..=25).collect();
+    assert_eq!(codes, expected);
+}
+
+#[test]
+fn all_lists_of_three_on_s() {
+    let (lines, codes) = search(&s_with(&[(0, &[2, 4]), (0, &[3, 4]), (1, &[1])]));
+    println!("{lines} lines, codes {codes:?}");
+}
+
+/// A border, a link, two parallel tracks between points, a link, a border.
+fn with_links(trains: &[(u8, &[u8])]) -> Table {
+    Table {
+        version: 1,
+        segments: segments(&[[1, 2], [2, 3], [3, 4], [3, 4], [4, 5], [5, 6]]),
+        boxes: boxes(&[
+            [0, 1, 0, 0, 0],
+            [1, 2, 1, 0, 0],
+            [2, 2, 4, 3, 2],
+            [2, 5, 3, 4, 1],
+            [1, 5, 6, 0, 0],
+            [0, 6, 0, 0, 0],
+        ]),
+        trains: entries(trains),
+    }
+}
+
+#[test]
+fn all_lists_with_links() {
+    let (lines, codes) = search(&with_links(&[(0, &[2, 3, 5, 6]), (1, &[5, 4, 2])]));
+    println!("{lines} lines, codes {codes:?}");
+    let (lines, codes) = search(&with_links(&[(0, &[1, 2, 3]), (0, &[2, 4, 5])]));
+    println!("{lines} lines, codes {codes:?}");
+}
+
+/// What another program could see of a line.
+fn seen_of(line: &Line) -> impl PartialEq {
+    let places: Vec<(usize, u8)> = line.trains.iter().map(|t| (t.front, t.covered)).collect();
+    (line.boxes.clone(), places)
+}
+
+/// Whether any list tells the faulty engine from the right one.
+fn told_apart(table: &Table, fault: Fault) -> bool {
+    let start = (start_line(table), start_line_with(table, fault));
+    let key = |(a, b): &(Line, Line)| {
+        (a.boxes.clone(), a.trains.clone(), b.boxes.clone(), b.trains.clone())
+    };
+    let mut seen = HashSet::from([key(&start)]);
+    let mut open = vec![start];
+    let steps = all_steps(table);
+    while let Some((right, faulty)) = open.pop() {
+        for &bytes in &steps {
+            let mut pair = (right.clone(), faulty.clone());
+            let answers = (step(&mut pair.0, bytes), step_with(&mut pair.1, bytes, fault));
+            if answers.0 != answers.1 || seen_of(&pair.0) != seen_of(&pair.1) {
+                return true;
+            }
+            if seen.insert(key(&pair)) {
+                open.push(pair);
+            }
+        }
+    }
+    false
+}
+
+/// Faults that no list on these tables shows, and near ones that some does.
+#[test]
+fn faults_no_list_shows() {
+    let tables = [
+        s_with(&[(0, &[1, 2, 4]), (1, &[4, 3, 1])]),
+        s_with(&[(0, &[2, 4]), (0, &[3, 4])]),
+        with_links(&[(0, &[1, 2, 3]), (0, &[2, 4, 5])]),
+    ];
+    for fault in [
+        Fault::NextBeforeMessage,
+        Fault::OwnSegmentRefused,
+        Fault::LockNeedsNextOnly,
+        Fault::RecordsKept,
+    ] {
+        assert!(tables.iter().all(|t| !told_apart(t, fault)), "{fault:?}");
+    }
+    for fault in [Fault::SensorNotAsked, Fault::LockTakenOver, Fault::RecordedBeforePlace] {
+        assert!(tables.iter().any(|t| told_apart(t, fault)), "{fault:?}");
+    }
+}

@@ -1,0 +1,178 @@
+//! The cases of the scope paper: "Checked on S and beside it".
+
+mod common;
+use common::*;
+use reference::line::start_line;
+use reference::printout::printout;
+use reference::table::{Table, VERSION};
+use reference::table_read::{read_table, route_in_file};
+use reference::table_write::{file_bytes, write_table};
+
+/// The first three steps of the printout.
+fn first_three() -> Vec<([u8; 3], u8)> {
+    ask(1, 1, 2, 0)
+}
+
+#[test]
+fn s_is_taken() {
+    let table = read_table(&S).unwrap();
+    assert_eq!((table.segments.len(), table.boxes.len(), table.trains.len()), (4, 4, 2));
+    assert_eq!(route_in_file(&S, 1), Some(&S[38..41]));
+    assert_eq!(route_in_file(&S, 2), Some(&S[43..46]));
+    assert_eq!(route_in_file(&S, 0), None);
+    assert_eq!(route_in_file(&S, 3), None);
+    let mut buffer = [7; 50];
+    assert_eq!(write_table(&table, &mut buffer), Ok(46));
+    assert_eq!(buffer[..46], S);
+    assert_eq!(buffer[46..], [7; 4]);
+}
+
+#[test]
+fn s_with_other_length() {
+    assert_eq!(read_table(&S[..45]), Err(5));
+    let mut longer = S.to_vec();
+    longer.push(0);
+    assert_eq!(read_table(&longer), Err(5));
+    assert_eq!(read_table(&S[..7]), Err(1));
+    for length in 8..46 {
+        assert_eq!(read_table(&S[..length]), Err(5));
+    }
+}
+
+#[test]
+fn most_segments() {
+    let table = table_96();
+    assert_eq!((table.segments.len(), table.boxes.len()), (96, 66));
+    assert_eq!(table.trains[0].route.len(), 64);
+    let mut file = file_bytes(&table);
+    assert_eq!(read_table(&file), Ok(table));
+    file[5] = 97;
+    assert_eq!(read_table(&file), Err(4));
+}
+
+#[test]
+fn one_segment_no_train() {
+    let table = Table {
+        version: VERSION,
+        segments: segments(&[[1, 2]]),
+        boxes: boxes(&[[0, 1, 0, 0, 0], [0, 1, 0, 0, 0]]),
+        trains: vec![],
+    };
+    let file = file_bytes(&table);
+    assert_eq!(file.len(), 20);
+    assert_eq!(read_table(&file), Ok(table.clone()));
+    run(&table, &[([1, 1, 0], 14), ([1, 1, 1], 14)]);
+}
+
+#[test]
+fn two_links_make_a_loop() {
+    let table = Table {
+        version: VERSION,
+        segments: segments(&[[1, 2], [2, 1]]),
+        boxes: boxes(&[[1, 1, 2, 0, 0], [1, 1, 2, 0, 0]]),
+        trains: vec![],
+    };
+    assert_eq!(read_table(&file_bytes(&table)), Err(9));
+}
+
+#[test]
+fn routes_refused() {
+    let jump = s_with(&[(0, &[2, 3]), (1, &[4, 3, 1])]);
+    assert_eq!(read_table(&file_bytes(&jump)), Err(11));
+    let clash = s_with(&[(0, &[1, 2, 4]), (1, &[1])]);
+    assert_eq!(read_table(&file_bytes(&clash)), Err(12));
+}
+
+#[test]
+fn after_the_first_three() {
+    let table = read_table(&S).unwrap();
+    for (step, code) in [([1, 1, 2], 18), ([1, 1, 4], 17)] {
+        let mut steps = first_three();
+        steps.push((step, code));
+        run(&table, &steps);
+    }
+}
+
+#[test]
+fn held_by_another() {
+    let table = s_with(&[(0, &[1, 2, 4]), (1, &[4, 2, 1])]);
+    let mut steps = first_three();
+    steps.extend(ask(1, 2, 2, 22));
+    run(&table, &steps);
+}
+
+#[test]
+fn through_a_point() {
+    let table = read_table(&S).unwrap();
+    let steps = [ask(1, 1, 2, 0), ask(1, 1, 3, 0), ask(2, 1, 2, 0)].concat();
+    let mut line = run(&table, &steps);
+    go_on(&mut line, &[([5, 1, 0], 0)]);
+    assert!(line.boxes[1].sensor);
+    assert_eq!(line.boxes[1].lock, 1);
+    assert_eq!(line.trains[0].tail_segment(), 1);
+    go_on(&mut line, &[([6, 1, 0], 0)]);
+    assert_eq!((line.trains[0].front_segment(), line.trains[0].tail_segment()), (2, 0));
+    let passed = line.boxes[1];
+    assert_eq!((passed.sensor, passed.lock, passed.reserved), (false, 0, [0; 3]));
+    assert_eq!(line.reservation(2, 3), 1);
+}
+
+#[test]
+fn lock_taken_then_sensor_active() {
+    let table = s_with(&[(0, &[2, 4]), (0, &[3, 4])]);
+    let mut line = run(&table, &[ask(1, 1, 3, 0), ask(1, 1, 4, 0), ask(2, 1, 3, 0)].concat());
+    let mut before = line.clone();
+    go_on(&mut before, &ask(2, 2, 3, 24));
+    go_on(&mut line, &[([5, 1, 0], 0)]);
+    go_on(&mut line, &ask(2, 2, 3, 23));
+}
+
+#[test]
+fn short_route_and_single() {
+    let table = s_with(&[(0, &[1]), (1, &[4, 3, 1])]);
+    run(&table, &[([5, 1, 0], 16), ([6, 1, 0], 20)]);
+}
+
+const S_STEPS: [u8; 30] = [
+    1, 1, 2, 3, 1, 0, 4, 1, 0, 5, 1, 0, 1, 2, 2, 3, 2, 0, 4, 2, 0, 2, 2, 3, 3, 2, 0, 4, 2, 0,
+];
+
+const S_LINES: &str = "1 1 1 0\n2 3 1 0\n3 4 1 0\n4 5 1 19\n5 1 2 0\n6 3 2 0\n7 4 2 0\n8 2 2 0\n\
+9 3 2 25\n10 4 2 25\n";
+const S_END: &str =
+    "train 1 1 0\ntrain 2 4 0\nbox 1 0 0 0\nbox 2 0 1 0\nbox 3 0 1 0\nbox 4 0 0 0\n";
+
+fn print(file: &[u8], input: &[u8]) -> String {
+    String::from_utf8(printout(file, input)).unwrap()
+}
+
+#[test]
+fn printout_of_s() {
+    assert_eq!(print(&S, &S_STEPS), format!("{S_LINES}{S_END}"));
+    assert_eq!(print(&S[..45], &S_STEPS), "file 5\n");
+    assert_eq!(print(&[], &S_STEPS), "file 1\n");
+    assert_eq!(print(&S, &[]), S_END);
+    assert_eq!(print(&S, &[1]), format!("1 1 0 13\n{S_END}"));
+    assert_eq!(print(&S, &[5, 1]), format!("1 5 1 13\n{S_END}"));
+}
+
+#[test]
+fn printout_of_many_steps() {
+    let input = vec![9; 3 * 65_535];
+    let full = print(&S, &input);
+    assert!(full.ends_with(&format!("65535 9 9 13\n{S_END}")));
+    let mut more = input.clone();
+    more.push(1);
+    assert_eq!(print(&S, &more), format!("{full}more\n"));
+    let partial = print(&S, &input[..input.len() - 1]);
+    assert_eq!(partial, full);
+}
+
+#[test]
+fn start_of_s() {
+    let line = start_line(&read_table(&S).unwrap());
+    assert_eq!(line.reservation(1, 2), 1);
+    assert_eq!(line.reservation(4, 3), 2);
+    assert_eq!(line.reservation(1, 1), 0);
+    assert_eq!(line.reservation(4, 4), 0);
+}

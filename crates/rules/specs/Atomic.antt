@@ -2,7 +2,7 @@
 -- takes each granted request whole. The atomic line is a line whose trains have no messages.
 use Prim.Native.Nat.{ℕ}
 use mathlib.Core.Bool.{Bool, false, cond, not, _&&_, _||_}
-use mathlib.Core.List.{List, [], _∷_, _++_}
+use mathlib.Core.List.{List, [], _∷_, _++_, Option·toList}
 use mathlib.Core.Option.{Option, none, some}
 use lib.Dec.{eqb}
 use Rattle.rules.specs.declared.Request.{Request}
@@ -26,16 +26,12 @@ unfoldable pub keep : Kept → Event → Kept
 keep kept e i =
     cond (isRequest (e .step) && eqb (e .step .train) i && eqb (e .answer) 0) (some (e .step)) (kept i)
 
-unfoldable pub keptStep : Option Step → List Step
-keptStep none = []
-keptStep (some s) = s ∷ []
-
 -- What an event adds to the order: a grant the request that is kept, whole; an accepted move itself; all else nothing.
 unfoldable pub added : Kept → Event → List Step
 added kept e =
     let s = e .step in
     cond (not (eqb (e .answer) 0)) []
-    (cond (eqb (s .kind) 3) (keptStep (kept (s .train))) (cond (eqb (s .kind) 5 || eqb (s .kind) 6) (s ∷ []) []))
+    (cond (eqb (s .kind) 3) (Option·toList (kept (s .train))) (cond (eqb (s .kind) 5 || eqb (s .kind) 6) (s ∷ []) []))
 
 unfoldable pub orderFrom : Kept → List Event → List Step
 orderFrom kept [] = []

@@ -10,8 +10,8 @@ use Rattle.rules.specs.declared.TrainPlan.{TrainPlan}
 use Rattle.rules.specs.declared.Table.{Table}
 use Rattle.rules.specs.Rows.{_if_, first, outside, listOf, joinOf, filled}
 use Rattle.rules.specs.Track.{noSegment, noBoxPlan, noTrainPlan, segmentAt, planAt, trainPlanAt, routeAt}
-use Rattle.rules.specs.Network.{headRows, networkRows}
-use Rattle.rules.specs.Placing.{placingRows, tableCode}
+use Rattle.rules.specs.Network.{headRows}
+use Rattle.rules.specs.Placing.{conditionRows, tableCode}
 
 -- The sizes of a file's parts, by its version: the head, a segment record, a box record, and a train record without its route.
 abbrev pub headSize : ℕ
@@ -120,8 +120,7 @@ fileCode bytes =
     ∷ 2 if not (marked bytes)
     ∷ headRows t
     ++ (5 if not (eqb (length bytes) (fileLength bytes)) ∷ [])
-    ++ networkRows t
-    ++ placingRows t
+    ++ conditionRows t
     )
 
 -- The route of train i as a part of the file: the file's code, then 14 for a train 0 or above k; the part is empty with both.

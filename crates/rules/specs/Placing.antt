@@ -33,6 +33,10 @@ placingRows t =
     ∷ 12 if anyOf (t .k) (startFault t)
     ∷ []
 
--- The code of a table record: 3, 4 and 6 to 12, or 0. Reader, writer and record check share it.
+-- What comes after a table's head: codes 6 to 12. The reader puts code 5 before it.
+unfoldable pub conditionRows : Table → List Row
+conditionRows t = networkRows t ++ placingRows t
+
+-- The code of a table record: 3, 4 and 6 to 12, or 0. The writer and the record check use it.
 unfoldable pub tableCode : Table → ℕ
-tableCode t = first (headRows t ++ networkRows t ++ placingRows t)
+tableCode t = first (headRows t ++ conditionRows t)

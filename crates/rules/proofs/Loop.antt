@@ -4,16 +4,18 @@
 -- A loop gives yes: each of its segments follows one of them, so that no round drops any.
 use Prim.Native.Nat.{ℕ, zero, suc, _+_, _≤_, _<_}
 use mathlib.Core.Path.{_≡_, refl, sym, _∙_, ap}
-use mathlib.Core.Logic.{_⊎_, inl, inr, ⊎-map, _↔_}
-use mathlib.Core.Bool.{Bool, true, false, cond, not, _||_, false≢true}
+use mathlib.Core.Logic.{_⊎_, inl, inr, ⊎-map, _↔_, Iff·rfl}
+use mathlib.Core.Bool.{Bool, true, false, cond, not, false≢true}
 use mathlib.Core.List.{List, [], _∷_, List·Memᴰ, List·Memᴰ·head, List·Memᴰ·tail, List·Memᴰ·not-nil, List·Memᴰ·eq-of-singleton}
 use native.Mathlib.Decide.{ℕ-discrete}
 use native.Mathlib.Omega.{arith}
 use lib.ListN.{length}
 use Rattle.rules.specs.declared.Table.{Table}
 use Rattle.rules.specs.Rows.{listOf, listFrom}
-use Rattle.rules.specs.Track.{follows}
+use Rattle.rules.specs.Track.{endA, endB, farBox, nearBox, follows}
 use Rattle.rules.specs.Loop.{SegmentOf, Chain, single, more, Loop, anyBefore, following, chainEnds, isEmpty, hasLoop}
+use Rattle.rules.proofs.Tests.{or-right, not-passed, or-true-iff, eqb-true-iff}
+use Rattle.rules.proofs.Rows.{from-length}
 
 infix 60 _∈_
 abbrev _∈_ : ℕ → List ℕ → Type 0
@@ -55,12 +57,7 @@ unfolding isEmpty
 has-member l (List·Memᴰ·head e) = refl
 has-member l (List·Memᴰ·tail m) = refl
 
--- The list of i, i + 1 and so on, n of them, has n members, and they are the numbers from i up to below i + n.
-from-length : (i n : ℕ) → length (listFrom i n (λ s. s)) ≡ n
-unfolding listFrom
-from-length i zero = refl
-from-length i (suc n) = ap suc (from-length (suc i) n)
-
+-- The members of the list of i, i + 1 and so on, n of them, are the numbers from i up to below i + n.
 from-has : (n i s : ℕ) → i ≤ s → s < i + n → s ∈ listFrom i n (λ s. s)
 unfolding listFrom
 from-has zero i s l h = absurd (omega arith)
@@ -86,15 +83,6 @@ keep-tail : (b : Bool) (s : ℕ) {x : ℕ} {l : List ℕ} → x ∈ l → x ∈ 
 keep-tail true s m = List·Memᴰ·tail m
 keep-tail false s m = m
 
--- Of two tests joined by "or".
-one-passed : (a b : Bool) → (a || b) ≡ true → (a ≡ true) ⊎ (b ≡ true)
-one-passed true b e = inl refl
-one-passed false b e = inr e
-
-second-passed : (a : Bool) → (a || true) ≡ true
-second-passed true = refl
-second-passed false = refl
-
 module _ (t : Table) where
   -- A segment of a list that comes before x.
   record Before (l : List ℕ) (x : ℕ) : Type 0 where
@@ -111,7 +99,7 @@ module _ (t : Table) where
   unfolding anyBefore
   any-before [] x e = absurd (false≢true e)
   any-before (s ∷ l) x e =
-      elim (one-passed (follows t 0 s x) (anyBefore t l x) e) [
+      elim (or-true-iff (follows t 0 s x) (anyBefore t l x) Iff·rfl Iff·rfl .0 e) [
         | inl f ↦ record { segment = s; listed = List·Memᴰ·head refl; before = f }
         | inr a ↦ among (λ s. List·Memᴰ·tail) (any-before l x a)
       ]
@@ -119,7 +107,7 @@ module _ (t : Table) where
   before-any : {l : List ℕ} {s : ℕ} (x : ℕ) → s ∈ l → follows t 0 s x ≡ true → anyBefore t l x ≡ true
   unfolding anyBefore
   before-any x (List·Memᴰ·head e) f = rw (← e, f)
-  before-any x (List·Memᴰ·tail {x = y} m) f = rw (before-any x m f) (second-passed (follows t 0 y x))
+  before-any x (List·Memᴰ·tail {x = y} m) f = or-right (follows t 0 y x) _ (before-any x m f)
 
   -- One round keeps exactly the segments of l that come after one of b.
   following-has : (b : List ℕ) {l : List ℕ} {x : ℕ} → x ∈ l → Before b x → x ∈ following t b l
@@ -144,7 +132,7 @@ module _ (t : Table) where
   ends-segment zero s m = let h = has-from (t .n) 1 s m in record { low = h .0; high = omega arith }
   ends-segment (suc r) s m = ends-segment r s (has-following _ _ s m .0)
 
-  segment-ends : (s : ℕ) → SegmentOf t s → s ∈ chainEnds t zero
+  pub segment-ends : (s : ℕ) → SegmentOf t s → s ∈ chainEnds t zero
   unfolding chainEnds listOf
   segment-ends s h = from-has (t .n) 1 s (h .low) (omega arith)
 
@@ -179,7 +167,7 @@ module _ (t : Table) where
       let (s, m) = member _ e in
       let h = ends-segment (t .n) s m in
       let w = without (segment-ends s h) in
-      let fewer : length (w .rest) < t .n = omega (arith, w .shorter, from-length 1 (t .n)) in
+      let fewer : length (w .rest) < t .n = omega (arith, w .shorter, from-length (λ s. s) (t .n) 1) in
       walk-back (t .n) (w .rest) (single h) (λ y g. move w (inr (segment-ends y g))) fewer m
 
   -- Each segment of a chain is one of the table, and is the chain's first or comes after one of the chain. The chain's last
@@ -225,9 +213,44 @@ module _ (t : Table) where
   pub loop-law : (hasLoop t ≡ true) ↔ Loop t
   loop-law = (loop-found, found-loop)
 
-  -- Where the test says no, no two segments follow each other, and none follows itself.
-  pub no-loop-two : hasLoop t ≡ false → (s x : ℕ) → SegmentOf t s → SegmentOf t x
-      → follows t 0 s x ≡ true → follows t 0 x s ≡ true → ⊥
-  no-loop-two e s x hs hx f g =
-      let c : Loop t = record { first = s; segments = s ∷ x ∷ []; last = x; chain = more hs f (single hx); closed = g } in
-      false≢true (sym e ∙ found-loop c)
+  -- It says no exactly where none exists.
+  pub no-loop-iff : (hasLoop t ≡ false) ↔ (¬ Loop t)
+  no-loop-iff = (λ e c. false≢true (sym e ∙ found-loop c), λ h. not-passed (hasLoop t) (λ e. h (loop-found e)))
+
+  -- One segment follows another: the far end of one and the near end of the other are at one box; in direction 0, the B end of
+  -- one and the A end of the other.
+  pub follows-iff : (d s x : ℕ) → (follows t d s x ≡ true) ↔ (farBox t d s ≡ nearBox t d x)
+  unfolding follows
+  follows-iff d s x = eqb-true-iff (farBox t d s) (nearBox t d x)
+
+  pub follows-box : (s x : ℕ) → follows t 0 s x ≡ true → endB t s ≡ endA t x
+  unfolding farBox nearBox
+  follows-box s x = follows-iff 0 s x .0
+
+  pub box-follows : (s x : ℕ) → endB t s ≡ endA t x → follows t 0 s x ≡ true
+  unfolding farBox nearBox
+  box-follows s x = follows-iff 0 s x .1
+
+  -- A segment that follows the end of a chain of r + 1 segments ends a chain of one more; the test says yes to one of n + 1.
+  pub ends-more : (r s x : ℕ) → s ∈ chainEnds t r → SegmentOf t x → follows t 0 s x ≡ true → x ∈ chainEnds t (suc r)
+  unfolding chainEnds
+  ends-more zero s x m h f = following-has _ (segment-ends x h) (record { segment = s; listed = m; before = f })
+  ends-more (suc r) s x m h f =
+      let k = ends-more r s x (has-following _ _ s m .0) h f in
+      following-has _ k (record { segment = s; listed = m; before = f })
+
+  pub ends-loop : (s : ℕ) → s ∈ chainEnds t (t .n) → hasLoop t ≡ true
+  unfolding hasLoop
+  ends-loop s m = has-member _ m
+
+  -- Where boxes have ranks that rise along every segment, they rise along every chain, and there is no loop.
+  module _ (rank : ℕ → ℕ) (rises : (s : ℕ) → SegmentOf t s → rank (endA t s) < rank (endB t s)) where
+    chain-rises : {s z : ℕ} {l : List ℕ} → Chain t s l z → rank (endA t s) < rank (endB t z)
+    chain-rises (single {s = s} h) = rises s h
+    chain-rises (more {s = s} {x = x} h f c) =
+        omega (arith, rises s h, ap rank (follows-box s x f), chain-rises c)
+
+    pub rising-no-loop : hasLoop t ≡ false
+    rising-no-loop =
+        no-loop-iff .1 (λ c.
+        omega (arith, chain-rises (c .chain), ap rank (follows-box (c .last) (c .first) (c .closed))))

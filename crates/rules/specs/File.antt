@@ -118,7 +118,7 @@ fileCode bytes =
     first
     (1 if ltb (length bytes) headSize
     ∷ 2 if not (marked bytes)
-    ∷ headRows t
+    ∷ headRows (versionIn bytes) (segmentCount bytes) (boxCount bytes) (trainCount bytes)
     ++ (5 if not (eqb (length bytes) (fileLength bytes)) ∷ [])
     ++ conditionRows t
     )
@@ -150,6 +150,21 @@ trainBytes t i =
 
 unfoldable pub encode : Table → List ℕ
 encode t = headBytes t ++ joinOf (t .n) (segmentBytes t) ++ joinOf (t .m) (boxBytes t) ++ joinOf (t .k) (trainBytes t)
+
+-- The table record as a file can hold it: what stands in places that are not used (segments beyond n, boxes beyond m, trains
+-- beyond k, routes beyond their length) is in no file, and is 0 here.
+unfoldable pub usedPart : Table → Table
+usedPart t =
+    record {
+      version = t .version;
+      n = t .n;
+      m = t .m;
+      k = t .k;
+      segments = filled 96 noSegment (listOf (t .n) (segmentAt t));
+      boxes = filled 96 noBoxPlan (listOf (t .m) (planAt t));
+      trains = filled 16 noTrainPlan (listOf (t .k) (trainPlanAt t));
+      routes = filled 1024 0 (joinOf (t .k) (λ i. filled 64 0 (listOf (trainPlanAt t i .length) (routeAt (t .routes) i))));
+    }
 
 -- The writer: the table's code, then 26 where the lent buffer is shorter than the file; and the whole buffer after it.
 unfoldable pub writeCode : Table → List ℕ → ℕ

@@ -15,8 +15,8 @@ unfoldable pub knownVersion : ℕ → Bool
 knownVersion v = eqb v 1
 
 -- Code 4: n, m or k outside its limits.
-unfoldable pub limitsFault : Table → Bool
-limitsFault t = outside 96 (t .n) || (ltb (t .m) 2 || ltb 96 (t .m)) || ltb 16 (t .k)
+unfoldable pub limitsFault : ℕ → ℕ → ℕ → Bool
+limitsFault n m k = outside 96 n || (ltb m 2 || ltb 96 m) || ltb 16 k
 
 -- Code 6: an end box 0 or above m, or both ends one box.
 unfoldable pub endsFault : Table → ℕ → Bool
@@ -70,9 +70,9 @@ boxFault t b =
 unfoldable pub unlistedFault : Table → ℕ → Bool
 unlistedFault t s = not (lists (planAt t (endA t s)) s) || not (lists (planAt t (endB t s)) s)
 
--- The head of the table: codes 3 and 4.
-unfoldable pub headRows : Table → List Row
-headRows t = 3 if not (knownVersion (t .version)) ∷ 4 if limitsFault t ∷ []
+-- The head of the table, its version and the numbers of segments, boxes and trains: codes 3 and 4.
+unfoldable pub headRows : ℕ → ℕ → ℕ → ℕ → List Row
+headRows version n m k = 3 if not (knownVersion version) ∷ 4 if limitsFault n m k ∷ []
 
 -- The network: codes 6 to 9.
 unfoldable pub networkRows : Table → List Row

@@ -39,4 +39,4 @@ conditionRows t = networkRows t ++ placingRows t
 
 -- The code of a table record: 3, 4 and 6 to 12, or 0. The writer and the record check use it.
 unfoldable pub tableCode : Table → ℕ
-tableCode t = first (headRows t ++ conditionRows t)
+tableCode t = first (headRows (t .version) (t .n) (t .m) (t .k) ++ conditionRows t)

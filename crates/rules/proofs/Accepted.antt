@@ -1,0 +1,334 @@
+-- What holds of an accepted table: the conditions of codes 3, 4 and 6 to 12 as facts with names.
+-- An end of a segment is named by a direction: the near end for a train of that direction.
+use Prim.Native.Nat.{ℕ, zero, suc, _+_, _-_, _≤_, _<_}
+use mathlib.Core.Path.{_≡_, refl, sym}
+use mathlib.Core.Logic.{_⊎_, inl, inr, ⊎-elim, _↔_, Iff·rfl, Iff·trans, _≢_, Ne·symm}
+use mathlib.Core.Bool.{Bool, true, false, _||_, false≢true}
+use mathlib.Core.List.{List}
+use lib.Dec.{eqb, leb, eqb·suc-zero}
+use native.Mathlib.Omega.{arith}
+use Rattle.rules.specs.declared.Table.{Table}
+use Rattle.rules.specs.declared.BoxPlan.{BoxPlan}
+use Rattle.rules.specs.Rows.{anyOf, outside}
+use Rattle.rules.specs.Track.{planAt, trainPlanAt, routeAt, endA, endB, nearBox, farBox, follows, isPoint, positionFits}
+use Rattle.rules.specs.Loop.{SegmentOf, Loop}
+use Rattle.rules.specs.Network.{knownVersion, limitsFault, endsFault, placeFault, planFault, lists, hasEndA, hasEndB, listedFault, sideFault, boxFault, unlistedFault, headRows, networkRows}
+use Rattle.rules.specs.Placing.{routeShapeFault, routePlaceFault, routeFault, startFault, placingRows, conditionRows, tableCode}
+use Rattle.rules.specs.Safety.{TrainOf, onRoute}
+use Rattle.rules.proofs.Tests.{facts, or-true-iff, eqb-true-iff, leb-true-iff, outside-false-iff, first-none, first-zero-iff}
+use Rattle.rules.proofs.Rows.{any-false-iff, once}
+use Rattle.rules.proofs.Loop.{no-loop-iff}
+
+-- A number of a box of the table.
+pub record BoxOf (t : Table) (b : ℕ) : Type 0 where
+  pub low : 1 ≤ b
+  pub high : b ≤ t .m
+
+-- Code 4: the numbers of segments, boxes and trains are within their limits.
+pub record Limits (n m k : ℕ) : Type 0 where
+  pub segmentsLow : 1 ≤ n
+  pub segmentsHigh : n ≤ 96
+  pub boxesLow : 2 ≤ m
+  pub boxesHigh : m ≤ 96
+  pub trainsHigh : k ≤ 16
+
+-- Code 6: each end of segment s is at a box of the table, and the two are not at one box.
+pub record Ends (t : Table) (s : ℕ) : Type 0 where
+  pub box : (d : ℕ) → BoxOf t (nearBox t d s)
+  pub differ : (d : ℕ) → nearBox t d s ≢ farBox t d s
+
+-- Code 7: what stands at a place of a box that is used in this case only.
+pub record UsedIf (t : Table) (case : Type 0) (s : ℕ) : Type 0 where
+  pub used : case → SegmentOf t s
+  pub unused : ¬ case → s ≡ 0
+
+-- Code 7: the kind of a box, what stands at its places, and its position at the start.
+pub record Planned (t : Table) (p : BoxPlan) : Type 0 where
+  pub kind : p .kind ≤ 2
+  pub stem : SegmentOf t (p .stem)
+  pub left : UsedIf t (1 ≤ p .kind) (p .left)
+  pub right : UsedIf t (p .kind ≡ 2) (p .right)
+  pub differ : p .kind ≡ 2 → p .left ≢ p .right
+  pub position : positionFits p (p .position) ≡ true
+
+-- Segment s is the branch of the box to which its position y leads: left at 1, right at 2.
+pub data Branch (p : BoxPlan) (y s : ℕ) : Type 0 where
+  onLeft : y ≡ 1 → p .left ≡ s → Branch p y s
+  onRight : y ≡ 2 → p .right ≡ s → Branch p y s
+
+-- Segment s stands at one of the places of the box.
+abbrev pub Stands : BoxPlan → ℕ → Type 0
+Stands p s = (p .stem ≡ s) ⊎ ((y : ℕ) × Branch p y s)
+
+-- Segment s has an end at box b.
+pub record EndAt (t : Table) (s b : ℕ) : Type 0 where
+  pub direction : ℕ
+  pub there : nearBox t direction s ≡ b
+
+-- Code 8 at box b: each segment that it lists has an end there, and no branch comes to it by the same end as the stem.
+pub record Sides (t : Table) (b : ℕ) : Type 0 where
+  pub ends : (s : ℕ) → lists (planAt t b) s ≡ true → s ≢ 0 → EndAt t s b
+  pub opposite
+      : (y s : ℕ) → Branch (planAt t b) y s → s ≢ 0 → (d : ℕ) → nearBox t d (planAt t b .stem) ≡ b → nearBox t d s ≢ b
+
+-- Codes 10 and 11 for train i's route, of direction d and length r, as it stands in routes: its shape, and each of its places
+-- is a segment that follows the one before.
+pub record Routed (t : Table) (routes : List ℕ) (i d r : ℕ) : Type 0 where
+  pub direction : d ≤ 1
+  pub low : 1 ≤ r
+  pub high : r ≤ 64
+  pub segment : (p : ℕ) → 1 ≤ p → p ≤ r → SegmentOf t (routeAt routes i p)
+  pub next : (p : ℕ) → 1 ≤ p → p < r → follows t d (routeAt routes i p) (routeAt routes i (p + 1)) ≡ true
+
+-- An accepted table.
+pub record Accepted (t : Table) : Type 0 where
+  -- Its version is one that is read.
+  pub version : knownVersion (t .version) ≡ true
+  -- Its numbers of segments, boxes and trains are within the limits.
+  pub limits : Limits (t .n) (t .m) (t .k)
+  -- Each segment runs between two boxes.
+  pub ends : (s : ℕ) → SegmentOf t s → Ends t s
+  -- Each box has the segments that its kind asks for.
+  pub plans : (b : ℕ) → BoxOf t b → Planned t (planAt t b)
+  -- Each box lists segments with an end there, the branches opposite to the stem.
+  pub sides : (b : ℕ) → BoxOf t b → Sides t b
+  -- Each end of a segment is listed by its box.
+  pub listed : (d s : ℕ) → SegmentOf t s → lists (planAt t (nearBox t d s)) s ≡ true
+  -- No segments follow one another in a circle.
+  pub noLoop : ¬ Loop t
+  -- Each train has a route.
+  pub routes
+      : (i : ℕ) → TrainOf t i → Routed t (t .routes) i (trainPlanAt t i .direction) (trainPlanAt t i .length)
+  -- No two trains start on one segment.
+  pub starts : (i j : ℕ) → TrainOf t i → TrainOf t j → onRoute t i 1 ≡ onRoute t j 1 → i ≡ j
+
+-- The tests of a number of a segment or box, and over all segments, boxes and trains.
+pub segment-iff : (t : Table) (s : ℕ) → (outside (t .n) s ≡ false) ↔ SegmentOf t s
+segment-iff t s = simp outside-false-iff (omega arith)
+
+pub box-iff : (t : Table) (b : ℕ) → (outside (t .m) b ≡ false) ↔ BoxOf t b
+box-iff t b = simp outside-false-iff (omega arith)
+
+pub any-segment-iff : (t : Table) (f : ℕ → Bool) → (anyOf (t .n) f ≡ false) ↔ ((s : ℕ) → SegmentOf t s → f s ≡ false)
+any-segment-iff t f = simp any-false-iff (λ e s h. e s (h .low) (h .high), λ e s l h. e s (omega arith))
+
+pub any-box-iff : (t : Table) (f : ℕ → Bool) → (anyOf (t .m) f ≡ false) ↔ ((b : ℕ) → BoxOf t b → f b ≡ false)
+any-box-iff t f = simp any-false-iff (λ e b h. e b (h .low) (h .high), λ e b l h. e b (omega arith))
+
+pub any-train-iff : (t : Table) (f : ℕ → Bool) → (anyOf (t .k) f ≡ false) ↔ ((i : ℕ) → TrainOf t i → f i ≡ false)
+any-train-iff t f = simp any-false-iff (λ e i h. e i (h .low) (h .high), λ e i l h. e i (omega arith))
+
+-- What holds of A ends and of B ends holds of the ends of every direction.
+each-end : (t : Table) (P : (ℕ → ℕ) → Type 0) → P (λ s. endA t s) → P (λ s. endB t s) → (d : ℕ) → P (λ s. nearBox t d s)
+unfolding nearBox
+each-end t P a b zero = a
+each-end t P a b (suc d) = rw eqb·suc-zero b
+
+-- The far end for one direction is the near end for the other.
+abbrev pub back : ℕ → ℕ
+back zero = 1
+back (suc d) = 0
+
+pub far-back : (t : Table) (d s : ℕ) → farBox t d s ≡ nearBox t (back d) s
+unfolding farBox nearBox
+far-back t zero s = refl
+far-back t (suc d) s = rw eqb·suc-zero
+
+pub near-back : (t : Table) (d s : ℕ) → nearBox t d s ≡ farBox t (back d) s
+unfolding farBox nearBox
+near-back t zero s = refl
+near-back t (suc d) s = rw eqb·suc-zero
+
+-- Each end of a segment is its near or its far end for a train of direction d.
+pub either-end : (t : Table) (s d e : ℕ) → (nearBox t d s ≡ nearBox t e s) ⊎ (farBox t d s ≡ nearBox t e s)
+unfolding nearBox farBox
+either-end t s zero zero = inl refl
+either-end t s zero (suc e) = inr (simp eqb·suc-zero)
+either-end t s (suc d) zero = inr (simp eqb·suc-zero)
+either-end t s (suc d) (suc e) = inl (simp eqb·suc-zero)
+
+-- Each condition on the records: its test finds nothing exactly where the fact holds. Code 4.
+pub limits-iff : (n m k : ℕ) → (limitsFault n m k ≡ false) ↔ Limits n m k
+unfolding limitsFault
+limits-iff n m k = simp (facts, outside-false-iff) (omega arith)
+
+-- Code 6.
+ends-iff : (t : Table) (s : ℕ) → (endsFault t s ≡ false) ↔ Ends t s
+unfolding endsFault nearBox farBox
+ends-iff t s =
+    simp (facts, box-iff) (
+      λ e. record { box = each-end t (λ f. BoxOf t (f s)) (e .0 .0) (e .0 .1); differ = differ e.1 },
+      λ h. ((h .box 0, h .box 1), h .differ 0),
+    )
+  where
+    differ : endA t s ≢ endB t s → (d : ℕ) → nearBox t d s ≢ farBox t d s
+    differ h zero = h
+    differ h (suc d) = rw eqb·suc-zero (Ne·symm h)
+
+-- Code 7: a place of a box.
+use-iff : (t : Table) (case : Type 0) (needed : Bool) (s : ℕ) → ((needed ≡ true) ↔ case)
+    → (placeFault (t .n) needed s ≡ false) ↔ UsedIf t case s
+unfolding placeFault
+use-iff t case true s h =
+    simp segment-iff
+    (λ e. record { used = λ _. e; unused = λ n. absurd (n (h .0 refl)) }, λ u. u .used (h .0 refl))
+use-iff t case false s h =
+    simp facts (
+      λ e. record { used = λ c. absurd (false≢true (h .1 c)); unused = λ _. e },
+      λ u. u .unused (λ c. false≢true (h .1 c)),
+    )
+
+-- Code 7: a box.
+plan-iff : (t : Table) (p : BoxPlan) → (planFault (t .n) p ≡ false) ↔ Planned t p
+unfolding planFault isPoint
+plan-iff t p =
+    simp (
+      facts,
+      segment-iff,
+      use-iff t (1 ≤ p .kind) (leb 1 (p .kind)) (p .left) (leb-true-iff 1 (p .kind)),
+      use-iff t (p .kind ≡ 2) (eqb (p .kind) 2) (p .right) (eqb-true-iff (p .kind) 2),
+    ) (
+      λ e. record { kind = omega arith; stem = e .0 .0 .0 .0 .1; left = e .0 .0 .0 .1; right = e .0 .0 .1; differ = e .0 .1; position = e .1 },
+      λ h. (((((omega arith, h .stem), h .left), h .right), h .differ), h .position),
+    )
+
+-- A box lists what stands at its places.
+pub lists-iff : (p : BoxPlan) (s : ℕ) → (lists p s ≡ true) ↔ Stands p s
+unfolding lists
+lists-iff p s =
+    let one : (x : ℕ) → (eqb x s ≡ true) ↔ (x ≡ s) = λ x. eqb-true-iff x s in
+    let two = or-true-iff (eqb (p .stem) s) (eqb (p .left) s) (one _) (one _) in
+    Iff·trans (or-true-iff (eqb (p .stem) s || eqb (p .left) s) (eqb (p .right) s) two (one _)) (
+      ⊎-elim (⊎-elim inl (λ e. inr (1, onLeft refl e))) (λ e. inr (2, onRight refl e)),
+      ⊎-elim (λ e. inl (inl e)) (λ b. branch (b .1)),
+    )
+  where
+    branch : {y : ℕ} → Branch p y s → ((p .stem ≡ s) ⊎ (p .left ≡ s)) ⊎ (p .right ≡ s)
+    branch (onLeft f e) = inl (inr e)
+    branch (onRight f e) = inr e
+
+-- What holds of the left and of the right holds of each branch.
+each-branch : (p : BoxPlan) (P : ℕ → Type 0) → P (p .left) → P (p .right) → (y s : ℕ) → Branch p y s → P s
+each-branch p P l r y s (onLeft f e) = rw e at l
+each-branch p P l r y s (onRight f e) = rw e at r
+
+-- Code 8: a segment with an end at a box, a listed segment, a branch, and all that a box lists.
+end-iff : (t : Table) (s b : ℕ) → ((hasEndA t s b || hasEndB t s b) ≡ true) ↔ EndAt t s b
+unfolding hasEndA hasEndB nearBox
+end-iff t s b =
+    Iff·trans
+    (or-true-iff (hasEndA t s b) (hasEndB t s b) (eqb-true-iff (endA t s) b) (eqb-true-iff (endB t s) b))
+    (⊎-elim (λ e. record { direction = 0; there = e }) (λ e. record { direction = 1; there = e }), λ h. from (h .direction) (h .there))
+  where
+    from : (d : ℕ) → nearBox t d s ≡ b → (endA t s ≡ b) ⊎ (endB t s ≡ b)
+    from zero e = inl e
+    from (suc d) e = inr (rw eqb·suc-zero at e)
+
+listed-iff : (t : Table) (b s : ℕ) → (listedFault t b s ≡ false) ↔ (s ≢ 0 → EndAt t s b)
+unfolding listedFault
+listed-iff t b s = simp (facts, end-iff) Iff·rfl
+
+side-iff : (t : Table) (b stem s : ℕ) → (sideFault t b stem s ≡ false) ↔ (s ≢ 0 → (d : ℕ) → nearBox t d stem ≡ b → nearBox t d s ≢ b)
+unfolding sideFault hasEndA hasEndB nearBox
+side-iff t b stem s =
+    simp facts
+    (λ e n. each-end t (λ f. f stem ≡ b → f s ≢ b) (e n .0) (e n .1), λ h n. (h n 0, h n 1))
+
+sides-iff : (t : Table) (b : ℕ) → (boxFault t b ≡ false) ↔ Sides t b
+unfolding boxFault
+sides-iff t b =
+    let p = planAt t b in
+    simp (facts, listed-iff, side-iff) (
+      λ ((((stem, left), right), leftSide), rightSide).
+          record {
+            ends = λ s l. ⊎-elim (λ e. rw e at stem) (λ (y, e). each-branch p (λ s. s ≢ 0 → EndAt t s b) left right y s e) (lists-iff p s .0 l);
+            opposite = each-branch p (λ s. s ≢ 0 → (d : ℕ) → nearBox t d (p .stem) ≡ b → nearBox t d s ≢ b) leftSide rightSide;
+          },
+      λ h.
+          let ends : (s : ℕ) → Stands p s → s ≢ 0 → EndAt t s b = λ s l. h .ends s (lists-iff p s .1 l) in
+          let left : Branch p 1 (p .left) = onLeft refl refl in
+          let right : Branch p 2 (p .right) = onRight refl refl in
+          ((((ends _ (inl refl), ends _ (inr (1, left))), ends _ (inr (2, right))), h .opposite 1 _ left), h .opposite 2 _ right),
+    )
+
+-- Code 8: the ends of a segment.
+listing-iff : (t : Table) (s : ℕ) → (unlistedFault t s ≡ false) ↔ ((d : ℕ) → lists (planAt t (nearBox t d s)) s ≡ true)
+unfolding unlistedFault nearBox
+listing-iff t s = simp facts
+    (λ e. each-end t (λ f. lists (planAt t (f s)) s ≡ true) (e .0) (e .1), λ h. (h 0, h 1))
+
+-- Codes 10 and 11: the shape and the places of a route.
+pub routed-iff : (t : Table) (routes : List ℕ) (i d r : ℕ)
+    → ((routeShapeFault d r ≡ false) × (routeFault t routes i d r ≡ false)) ↔ Routed t routes i d r
+unfolding routeShapeFault routeFault routePlaceFault
+routed-iff t routes i d r =
+    simp (facts, any-false-iff, outside-false-iff 64, segment-iff t) (
+      λ ((direction, (low, high)), places).
+          record {
+            direction = omega arith;
+            low = low;
+            high = high;
+            segment = λ p l h. places p l h .0;
+            next = λ p l h.
+                let e : p + 1 - 1 ≡ p = omega arith in
+                rw e at (places (p + 1) (omega arith) (omega arith) .1 (omega arith));
+          },
+      λ h. (
+        (omega arith, (h .low, h .high)),
+        λ p l g. (
+          h .segment p l g,
+          λ later. let e : p - 1 + 1 ≡ p = omega arith in rw e at (h .next (p - 1) (omega arith) (omega arith)),
+        ),
+      ),
+    )
+
+-- Code 12: a train and those before it.
+start-iff : (t : Table) (i : ℕ) → (startFault t i ≡ false) ↔ ((j : ℕ) → 1 ≤ j → j < i → onRoute t i 1 ≢ onRoute t j 1)
+unfolding startFault
+start-iff t i = simp (facts, any-false-iff) (λ e j l h. e j l (omega arith), λ e j l h. e j l (omega arith))
+
+-- Code 12: where each train starts on another segment than those before it, any two do.
+starts-iff : (t : Table)
+    → ((i : ℕ) → TrainOf t i → startFault t i ≡ false)
+    ↔ ((i j : ℕ) → TrainOf t i → TrainOf t j → onRoute t i 1 ≡ onRoute t j 1 → i ≡ j)
+starts-iff t =
+    simp start-iff (
+      λ e i j hi hj.
+          once (λ i. onRoute t i 1) (t .k) (λ p q l g h f. e q (omega arith) p l g (sym f)) i j (hi .low) (hi .high) (hj .low) (hj .high),
+      λ e i hi j l h q. let same = e i j hi (omega arith) q in omega arith,
+    )
+
+-- The route of a train of an accepted table passes the tests of codes 10 and 11.
+faultless
+    : (t : Table) → Accepted t → (i : ℕ) → TrainOf t i
+    → (routeShapeFault (trainPlanAt t i .direction) (trainPlanAt t i .length) ≡ false)
+    × (routeFault t (t .routes) i (trainPlanAt t i .direction) (trainPlanAt t i .length) ≡ false)
+faultless t a i h = routed-iff t (t .routes) i _ _ .1 (a .routes i h)
+
+-- A table is accepted exactly where its code is 0.
+pub accepted-iff : (t : Table) → (tableCode t ≡ 0) ↔ Accepted t
+unfolding tableCode headRows conditionRows networkRows placingRows
+accepted-iff t =
+    simp
+    (facts, first-zero-iff, first-none, any-segment-iff, any-box-iff, any-train-iff, limits-iff, ends-iff, plan-iff, sides-iff, listing-iff, no-loop-iff) (
+      λ (version, (limits, (ends, (plans, ((sides, listed), (noLoop, (shapes, (routes, (starts, none))))))))).
+          record {
+            version = version;
+            limits = limits;
+            ends = ends;
+            plans = plans;
+            sides = sides;
+            listed = λ d s h. listed s h d;
+            noLoop = noLoop;
+            routes = λ i h. routed-iff t (t .routes) i _ _ .0 (shapes i h, routes i h);
+            starts = starts-iff t .0 starts;
+          },
+      λ a.
+          (a .version, (a .limits, (a .ends, (a .plans, ((a .sides, λ s h d. a .listed d s h), (a .noLoop, (λ i h. faultless t a i h .0, (λ i h. faultless t a i h .1, (starts-iff t .1 (a .starts), refl))))))))),
+    )
+
+pub accepted : (t : Table) → tableCode t ≡ 0 → Accepted t
+accepted t = accepted-iff t .0
+
+pub accepted-code : (t : Table) → Accepted t → tableCode t ≡ 0
+accepted-code t = accepted-iff t .1

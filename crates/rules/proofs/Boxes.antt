@@ -1,0 +1,176 @@
+-- How the boxes of an accepted table join its segments.
+use Prim.Native.Nat.{ℕ, _≤_}
+use mathlib.Core.Path.{_≡_, refl, sym, _∙_}
+use mathlib.Core.Logic.{_⊎_, inl, inr, ⊎-elim, _↔_, Iff·rfl, Iff·trans, _≢_}
+use mathlib.Core.Bool.{Bool, true, false, _&&_, _||_, cond, false≢true}
+use lib.Dec.{eqb}
+use native.Mathlib.Decide.{ℕ-discrete, decLe}
+use native.Mathlib.Omega.{arith}
+use Rattle.rules.specs.declared.BoxPlan.{BoxPlan}
+use Rattle.rules.specs.declared.Table.{Table}
+use Rattle.rules.specs.Track.{planAt, isPoint, positionFits, nearBox, farBox, samePair, joins}
+use Rattle.rules.specs.Loop.{SegmentOf}
+use Rattle.rules.specs.Network.{lists}
+use Rattle.rules.specs.Steps.{positionFor}
+use Rattle.rules.proofs.Tests.{facts, or-true-iff}
+use Rattle.rules.proofs.Accepted.{Accepted, BoxOf, Planned, Branch, onLeft, onRight, Stands, EndAt, back, far-back, near-back, either-end, lists-iff}
+
+-- Position y of a box joins segments s and x: one is its stem, and the position leads to the other.
+pub data Joint (p : BoxPlan) (y s x : ℕ) : Type 0 where
+  fromStem : p .stem ≡ s → Branch p y x → Joint p y s x
+  toStem : p .stem ≡ x → Branch p y s → Joint p y s x
+
+-- Two numbers are the two others, either way round.
+abbrev Pair : ℕ → ℕ → ℕ → ℕ → Type 0
+Pair s x y z = ((s ≡ y) × (x ≡ z)) ⊎ ((s ≡ z) × (x ≡ y))
+
+pair-iff : (s x y z : ℕ) → (samePair s x y z ≡ true) ↔ Pair s x y z
+unfolding samePair
+pair-iff s x y z =
+    or-true-iff (eqb s y && eqb x z) (eqb s z && eqb x y) (simp facts Iff·rfl) (simp facts Iff·rfl)
+
+-- The test `joins` says yes exactly where the position joins the two segments.
+pub joins-iff : (p : BoxPlan) (y s x : ℕ) → (joins p y s x ≡ true) ↔ Joint p y s x
+unfolding joins
+joins-iff p y s x =
+    Iff·trans
+    (or-true-iff (eqb y 1 && samePair s x (p .stem) (p .left)) (eqb y 2 && samePair s x (p .stem) (p .right))
+    (simp (facts, pair-iff) Iff·rfl) (simp (facts, pair-iff) Iff·rfl))
+    (⊎-elim (λ h. joint (λ z. onLeft (h .0)) (h .1)) (λ h. joint (λ z. onRight (h .0)) (h .1)), parts)
+  where
+    joint : {c : ℕ} → ((z : ℕ) → c ≡ z → Branch p y z) → Pair s x (p .stem) c → Joint p y s x
+    joint leads (inl e) = fromStem (sym (e .0)) (leads x (sym (e .1)))
+    joint leads (inr e) = toStem (sym (e .1)) (leads s (sym (e .0)))
+
+    parts : Joint p y s x → ((y ≡ 1) × Pair s x (p .stem) (p .left)) ⊎ ((y ≡ 2) × Pair s x (p .stem) (p .right))
+    parts (fromStem e (onLeft f g)) = inl (f, inl (sym e, sym g))
+    parts (fromStem e (onRight f g)) = inr (f, inl (sym e, sym g))
+    parts (toStem e (onLeft f g)) = inl (f, inr (sym g, sym e))
+    parts (toStem e (onRight f g)) = inr (f, inr (sym g, sym e))
+
+-- Where some position joins two segments, the position for them does.
+joint-position : {p : BoxPlan} {y s x : ℕ} → Joint p y s x → joins p (positionFor p s x) s x ≡ true
+unfolding positionFor
+joint-position {p} {y} {s} {x} h = go (joins p 1 s x) refl
+  where
+    right : (y ≡ 1 → ⊥) → Joint p y s x → Joint p 2 s x
+    right n (fromStem e (onLeft f g)) = absurd (n f)
+    right n (fromStem e (onRight f g)) = fromStem e (onRight refl g)
+    right n (toStem e (onLeft f g)) = absurd (n f)
+    right n (toStem e (onRight f g)) = toStem e (onRight refl g)
+
+    go : (c : Bool) → joins p 1 s x ≡ c → joins p (cond c 1 2) s x ≡ true
+    go true e = e
+    go false e = joins-iff p 2 s x .1 (right (λ f. false≢true (sym e ∙ rw f at (joins-iff p y s x .1 h))) h)
+
+-- The position for two segments is one that a point can have.
+pub position-fits : (p : BoxPlan) (s x : ℕ) → isPoint p ≡ true → positionFits p (positionFor p s x) ≡ true
+unfolding positionFits positionFor
+position-fits p s x e = rw e (either (joins p 1 s x))
+  where
+    either : (c : Bool) → (eqb (cond c 1 2) 1 || eqb (cond c 1 2) 2) ≡ true
+    either true = refl
+    either false = refl
+
+-- A branch is there at a box of its kind: on the left at links and points, on the right at points.
+pub branch-kind : {t : Table} {p : BoxPlan} {y s : ℕ} → Planned t p → SegmentOf t s → Branch p y s → (1 ≤ y) × (y ≤ p .kind)
+branch-kind {p} h hs (onLeft f e) =
+    elim (decLe 1 (p .kind)) [ yes k ↦ omega arith | no k ↦ let z = h .left .unused k in absurd (omega arith) ]
+branch-kind {p} h hs (onRight f e) =
+    elim (ℕ-discrete (p .kind) 2) [ yes k ↦ omega arith | no k ↦ let z = h .right .unused k in absurd (omega arith) ]
+
+-- A segment is not both the left and the right of a box, so one position leads to it.
+one-side : {t : Table} {p : BoxPlan} {s : ℕ} → Planned t p → SegmentOf t s → p .left ≡ s → p .right ≡ s → ⊥
+one-side h hs e f =
+    let k = branch-kind {y = 2} h hs (onRight refl f) in
+    h .differ (omega arith) (e ∙ sym f)
+
+pub branch-once : {t : Table} {p : BoxPlan} {y z s : ℕ} → Planned t p → SegmentOf t s → Branch p y s → Branch p z s → y ≡ z
+branch-once h hs (onLeft f e) (onLeft g k) = f ∙ sym g
+branch-once h hs (onLeft f e) (onRight g k) = absurd (one-side h hs e k)
+branch-once h hs (onRight f e) (onLeft g k) = absurd (one-side h hs k e)
+branch-once h hs (onRight f e) (onRight g k) = f ∙ sym g
+
+-- So only a link or a point joins two segments, and a link only at 1.
+pub joint-kind : {t : Table} {p : BoxPlan} {y s x : ℕ} → Planned t p → SegmentOf t s → SegmentOf t x → Joint p y s x
+    → (1 ≤ y) × (y ≤ p .kind)
+joint-kind h hs hx (fromStem e r) = branch-kind h hx r
+joint-kind h hs hx (toStem e r) = branch-kind h hs r
+
+-- One of two segments that a box joins is its stem, so two trains that cross a box share a segment.
+pub joint-stem : {p : BoxPlan} {y s x : ℕ} → Joint p y s x → (p .stem ≡ s) ⊎ (p .stem ≡ x)
+joint-stem (fromStem e r) = inl e
+joint-stem (toStem e r) = inr e
+
+-- The box at the far end of a segment, as at the near end, is one of the table and lists the segment.
+module _ {t : Table} (a : Accepted t) where
+  pub far-box : (d s : ℕ) → SegmentOf t s → BoxOf t (farBox t d s)
+  far-box d s h = rw far-back (a .ends s h .box (back d))
+
+  pub far-listed : (d s : ℕ) → SegmentOf t s → lists (planAt t (farBox t d s)) s ≡ true
+  far-listed d s h = rw far-back (a .listed (back d) s h)
+
+-- A box of an accepted table.
+module _ {t : Table} (a : Accepted t) {b : ℕ} (box : BoxOf t b) where
+  -- Its stem comes to it by one of its ends.
+  stem-end : EndAt t (planAt t b .stem) b
+  stem-end =
+      let stem = a .plans b box .stem in
+      a .sides b box .ends _ (lists-iff _ _ .1 (inl refl)) (omega arith)
+
+  -- Its stem is no branch of it. So a segment stands at one place of it only.
+  pub stem-no-branch : {y s : ℕ} → Branch (planAt t b) y s → planAt t b .stem ≢ s
+  stem-no-branch {y} {s} r e =
+      let stem = a .plans b box .stem in
+      let there = stem-end .there in
+      a .sides b box .opposite y s r (omega arith) (stem-end .direction) there (rw e at there)
+
+  -- The stem is on the other side than a branch: for a train that leaves the box on the branch, the stem lies behind.
+  pub stem-far : (y s d : ℕ) → SegmentOf t s → Branch (planAt t b) y s → nearBox t d s ≡ b → farBox t d (planAt t b .stem) ≡ b
+  stem-far y s d hs r e =
+      ⊎-elim
+      (λ f. absurd (a .sides b box .opposite y s r (omega arith) d (f ∙ stem-end .there) e))
+      (λ f. f ∙ stem-end .there)
+      (either-end t _ d (stem-end .direction))
+
+  -- The same for a train that comes to the box on the branch.
+  pub stem-near : (y s d : ℕ) → SegmentOf t s → Branch (planAt t b) y s → farBox t d s ≡ b → nearBox t d (planAt t b .stem) ≡ b
+  stem-near y s d hs r e = near-back t d _ ∙ stem-far y s (back d) hs r (sym (far-back t d s) ∙ e)
+
+  -- One position joins two segments.
+  pub joint-once : {y z s x : ℕ} → SegmentOf t s → SegmentOf t x → Joint (planAt t b) y s x → Joint (planAt t b) z s x → y ≡ z
+  joint-once hs hx (fromStem e r) (fromStem f q) = branch-once (a .plans b box) hx r q
+  joint-once hs hx (fromStem e r) (toStem f q) = absurd (stem-no-branch q e)
+  joint-once hs hx (toStem e r) (fromStem f q) = absurd (stem-no-branch r f)
+  joint-once hs hx (toStem e r) (toStem f q) = branch-once (a .plans b box) hs r q
+
+  -- Where segment x follows segment s at it, one of them is the stem, and the other a branch.
+  pub joint : (d s x : ℕ) → SegmentOf t s → SegmentOf t x → farBox t d s ≡ b → nearBox t d x ≡ b
+      → (y : ℕ) × Joint (planAt t b) y s x
+  joint d s x hs hx e f =
+      go
+      (lists-iff _ s .0 (rw e at (far-listed a d s hs)))
+      (lists-iff _ x .0 (rw f at (a .listed d x hx)))
+    where
+      go : Stands (planAt t b) s → Stands (planAt t b) x → (y : ℕ) × Joint (planAt t b) y s x
+      go (inl g) (inl h) = absurd (a .ends s hs .differ d (cc))
+      go (inl g) (inr r) = (r .0, fromStem g (r .1))
+      go (inr r) (inl g) = (r .0, toStem g (r .1))
+      go (inr r) (inr q) =
+          absurd (a .ends _ (a .plans b box .stem) .differ d (stem-near _ s d hs (r .1) e ∙ sym (stem-far _ x d hx (q .1) f)))
+
+  -- The position for them joins them.
+  pub position-joins : (d s x : ℕ) → SegmentOf t s → SegmentOf t x → farBox t d s ≡ b → nearBox t d x ≡ b
+      → joins (planAt t b) (positionFor (planAt t b) s x) s x ≡ true
+  position-joins d s x hs hx e f = joint-position (joint d s x hs hx e f .1)
+
+  -- No other position joins two segments than the one for them.
+  pub position-only : (y s x : ℕ) → SegmentOf t s → SegmentOf t x → joins (planAt t b) y s x ≡ true
+      → y ≡ positionFor (planAt t b) s x
+  position-only y s x hs hx j =
+      let h = joins-iff _ y s x .0 j in
+      joint-once hs hx h (joins-iff _ _ s x .0 (joint-position h))
+
+  -- Where a segment follows another at it, it is no border.
+  pub passed-kind : (d s x : ℕ) → SegmentOf t s → SegmentOf t x → farBox t d s ≡ b → nearBox t d x ≡ b → 1 ≤ planAt t b .kind
+  passed-kind d s x hs hx e f = omega (arith, joint-kind (a .plans b box) hs hx (joint d s x hs hx e f .1))

@@ -1,0 +1,191 @@
+-- Laws of ranks of boxes: a pass that raises them along the segments, and what its end says of loops.
+use Prim.Native.Nat.{ℕ, zero, suc, _+_, _-_, _*_, _≤_, _<_}
+use mathlib.Core.Path.{_≡_, sym, _∙_, ap}
+use mathlib.Core.Logic.{_⊎_, inl, inr, ⊎-elim}
+use mathlib.Core.Bool.{Bool, true, false, false≢true}
+use mathlib.Core.List.{List, [], _∷_, List·Memᴰ}
+use native.Mathlib.Decide.{ℕ-discrete, decLt}
+use native.Mathlib.Omega.{arith}
+use lib.ListN.{length, getD, set, replicate, length-set, length-replicate}
+use lib.Seq.{getD-set-same, getD-set-other, set-out}
+use Rattle.rules.specs.declared.Segment.{Segment}
+use Rattle.rules.specs.declared.Table.{Table}
+use Rattle.rules.specs.Track.{noSegment, segmentAt, endA, endB}
+use Rattle.rules.specs.Loop.{SegmentOf, chainEnds, hasLoop}
+use Rattle.rules.proofs.Rows.{nth-at}
+use Rattle.rules.proofs.Loop.{segment-ends, box-follows, ends-more, ends-loop, rising-no-loop}
+use Rattle.layout.specs.Ranks.{Low, Reached, total, told, Ended}
+use Rattle.layout.specs.declared.ranks.Pass.{Pass}
+use Rattle.layout.specs.declared.ranks.Pass.the-variants.{Rising, Raised, TooHigh}
+
+-- A number of a list after a store: the one stored, at its place, or the old one.
+set-cases : (l : List ℕ) (i v x : ℕ) → ((x ≡ i) × (getD (set l i v) x 0 ≡ v)) ⊎ (getD (set l i v) x 0 ≡ getD l x 0)
+set-cases l i v x =
+    elim (ℕ-discrete x i) [
+      | no e ↦ inr (getD-set-other l i x v 0 e)
+      | yes e ↦
+          elim (decLt i (length l)) [
+            | yes h ↦ inl (e, rw e (getD-set-same l i v 0 h))
+            | no h ↦ inr (rw (set-out l i v (omega arith)))
+          ]
+    ]
+
+-- The sum of a list: it grows with a store of a higher number, and is at most its length times the highest.
+total-set : (l : List ℕ) (i v : ℕ) → i < length l → total (set l i v) + getD l i 0 ≡ total l + v
+unfolding total
+total-set [] i v h = absurd (omega arith)
+total-set (x ∷ l) zero v h = omega arith
+total-set (x ∷ l) (suc i) v h = omega (arith, total-set l i v (omega arith))
+
+total-bounded : (k : ℕ) (l : List ℕ) → ((x : ℕ) → getD l x 0 ≤ k) → total l ≤ length l * k
+unfolding total
+total-bounded k [] h = omega arith
+total-bounded k (x ∷ l) h = omega (arith, h 0, total-bounded k l (λ y. h (suc y)))
+
+-- Ranks that are all 96, and ranks after a store of one that is at most 96, are at most 96; such ranks ask for no chain.
+same-at : (k n x : ℕ) → getD (replicate n k) x 0 ≤ k
+same-at k zero x = omega arith
+same-at k (suc n) zero = omega arith
+same-at k (suc n) (suc x) = same-at k n x
+
+pub low-start : Low (replicate 256 96)
+low-start = record { size = length-replicate {A = ℕ} 256 96; low = same-at 96 256 }
+
+pub low-set : (l : List ℕ) (i v k : ℕ) → Low l → v < k → k ≤ 96 → Low (set l i v)
+low-set l i v k h u w =
+    record {
+      size = length-set l i v ∙ h .size;
+      low = λ x. ⊎-elim (λ e. omega arith) (λ e. omega (arith, h .low x)) (set-cases l i v x);
+    }
+
+pub low-reached : (t : Table) (l : List ℕ) → Low l → Reached t l
+low-reached t l h =
+    record {
+      size = h .size;
+      bounded = λ x. omega (arith, h .low x);
+      chained = λ x r e. absurd (omega (arith, h .low x));
+    }
+
+module _ (t : Table) where
+  -- The segment at index i: it is numbered i + 1.
+  abbrev here : ℕ → Segment
+  here i = getD (t .segments) i noSegment
+
+  number : (i : ℕ) → i < t .n → SegmentOf t (i + 1)
+  number i h = record { low = omega arith; high = omega arith }
+
+  here-a : (i : ℕ) → endA t (i + 1) ≡ here i .a
+  unfolding endA segmentAt
+  here-a i = ap (λ (s : Segment). s .a) (nth-at (t .segments) i noSegment)
+
+  here-b : (i : ℕ) → endB t (i + 1) ≡ here i .b
+  unfolding endB segmentAt
+  here-b i = ap (λ (s : Segment). s .b) (nth-at (t .segments) i noSegment)
+
+  -- A segment whose A end has the rank 96 + r ends a chain of r + 1 segments.
+  reach : (l : List ℕ) (s r : ℕ) → Reached t l → SegmentOf t s → getD l (endA t s) 0 ≡ 96 + r → List·Memᴰ s (chainEnds t r)
+  reach l s zero h k e = segment-ends t s k
+  reach l s (suc r) h k e =
+      let c = h .chained (endA t s) r (omega arith) in
+      ends-more t r (c .last) s (c .listed) k (box-follows t (c .last) s (c .there))
+
+  -- What holds of raised ranks still does where the rank at the B end of a segment is set above the one at its A end.
+  reached-raised : (l : List ℕ) (s : ℕ) → Reached t l → SegmentOf t s → getD l (endA t s) 0 < t .n + 96
+      → Reached t (set l (endB t s) (getD l (endA t s) 0 + 1))
+  reached-raised l s h k u =
+      let v = getD l (endA t s) 0 + 1 in
+      record {
+        size = length-set l (endB t s) v ∙ h .size;
+        bounded = λ x. ⊎-elim (λ e. omega arith) (λ e. omega (arith, h .bounded x)) (set-cases l (endB t s) v x);
+        chained = λ x r e.
+            ⊎-elim
+            (λ w. record { last = s; listed = reach l s r h k (omega arith); there = sym (w .0) })
+            (λ w. h .chained x r (sym w ∙ e))
+            (set-cases l (endB t s) v x);
+      }
+
+  -- Where the rank at the A end of a segment is 96 + n, there is a loop.
+  high-loop : (l : List ℕ) (s : ℕ) → Reached t l → SegmentOf t s → t .n + 96 ≤ getD l (endA t s) 0 → hasLoop t ≡ true
+  high-loop l s h k u =
+      ends-loop t s (reach l s (t .n) h k (omega (arith, h .bounded (endA t s))))
+
+-- 1 for a pass that raised a rank.
+unfoldable pub steps : Bool → ℕ
+steps false = 0
+steps true = 1
+
+-- A pass that has done the segments below index i: the ranks before it and now, and whether it raised one.
+pub record Passing (t : Table) (before after : List ℕ) (raised : Bool) (i : ℕ) : Type 0 where
+  pub within : i ≤ t .n
+  pub reached : Reached t after
+  pub grown : total before + steps raised ≤ total after
+  pub rising : raised ≡ false → (s : ℕ) → 1 ≤ s → s ≤ i → getD after (endA t s) 0 < getD after (endB t s) 0
+
+-- The start of a pass; a segment along which the ranks rise, one along which a rank is raised, one whose A end is too high; and
+-- the end of a pass that raised some rank, and of one that raised none.
+module _ (t : Table) (l : List ℕ) where
+  pub passing-start : Reached t l → Passing t l l false 0
+  unfolding steps
+  passing-start h =
+      record { within = omega arith; reached = h; grown = omega arith; rising = λ e s a b. absurd (omega arith) }
+
+  module _ (now : List ℕ) (f : Bool) (i : ℕ) (p : Passing t l now f i) where
+    pub passing-kept : i < t .n → getD now (here t i .a) 0 < getD now (here t i .b) 0 → Passing t l now f (i + 1)
+    passing-kept h k =
+        record {
+          within = omega arith;
+          reached = p .reached;
+          grown = p .grown;
+          rising = λ e s a b.
+              elim (ℕ-discrete s (i + 1)) [
+                | yes q ↦ rw (q, here-a t i, here-b t i) k
+                | no q ↦ p .rising e s a (omega arith)
+              ];
+        }
+
+    pub passing-raised : i < t .n → here t i .b < 256 → getD now (here t i .b) 0 ≤ getD now (here t i .a) 0
+        → getD now (here t i .a) 0 < t .n + 96 → Passing t l (set now (here t i .b) (getD now (here t i .a) 0 + 1)) true (i + 1)
+    unfolding steps
+    passing-raised h w k u =
+        let r = reached-raised t now (i + 1) (p .reached) (number t i h) (rw here-a u) in
+        record {
+          within = omega arith;
+          reached = rw (here-a, here-b) at r;
+          grown = omega (arith, total-set now (here t i .b) (getD now (here t i .a) 0 + 1) (omega arith), p .grown);
+          rising = λ e. absurd (false≢true (sym e));
+        }
+
+    pub passing-high : i < t .n → t .n + 96 ≤ getD now (here t i .a) 0 → Ended t l now TooHigh
+    unfolding told
+    passing-high h u =
+        record { reached = p .reached; tells = high-loop t now (i + 1) (p .reached) (number t i h) (rw here-a u) }
+
+    pub passed-raised : f ≡ true → Ended t l now Raised
+    unfolding told steps
+    passed-raised e = let g = rw e at (p .grown) in record { reached = p .reached; tells = omega arith }
+
+    pub passed-rising : f ≡ false → t .n ≤ i → Ended t l now Rising
+    unfolding told
+    passed-rising e h =
+        record {
+          reached = p .reached;
+          tells = rising-no-loop t (λ x. getD now x 0) (λ s k. p .rising e s (k .low) (omega arith));
+        }
+
+-- What the end of a pass says of loops; and what is left of the sum that ranks can have, which is less after each pass that
+-- raised one.
+reached-total : (t : Table) (l : List ℕ) → t .n ≤ 96 → Reached t l → total l ≤ 49152
+reached-total t l n h = omega (arith, total-bounded 192 l (λ x. omega (arith, h .bounded x)))
+
+module _ (t : Table) (before after : List ℕ) (pass : Pass) (h : Ended t before after pass) where
+  pub rising-none : pass ≡ Rising → false ≡ hasLoop t
+  unfolding told
+  rising-none e = let k = rw e at (h .tells) in sym k
+
+  pub high-some : pass ≡ TooHigh → true ≡ hasLoop t
+  unfolding told
+  high-some e = let k = rw e at (h .tells) in sym k
+
+  pub raised-less : pass ≡ Raised → t .n ≤ 96 → 49152 - total after < 49152 - total before
+  unfolding told
+  raised-less e n = let k = rw e at (h .tells) in omega (arith, reached-total t after n (h .reached))

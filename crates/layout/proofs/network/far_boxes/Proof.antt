@@ -1,0 +1,64 @@
+-- The loop has stored the boxes of the segments before.
+use Prim.Native.Nat.{_-_, _≤_}
+use mathlib.Core.Path.{_≡_, _∙_}
+use native.Mathlib.Omega.{arith}
+use mathlib.Core.Logic.{⊎-elim}
+use borrow.Author.Needs.{needs}
+use Rattle.rules.specs.Track.{farBox}
+use Rattle.layout.specs.Ends.{column}
+use Rattle.layout.proofs.Laws.{Filled, fill-start, fill-turn, fill-end, far-none, far-beyond, far-a, far-b}
+use Rattle.rules.proofs.Rows.{length-mapped}
+use Rattle.layout.proofs.network.far_boxes.Statement.{statement}
+use Rattle.layout.proofs.network.far_boxes.Tie as tie
+
+abbrev Inv-loop : tie.InvT-loop
+Inv-loop d t boxes₀ i₀ boxes i = (i ≤ 96) × Filled 256 (farBox t d) i boxes
+
+abbrev μ-loop : tie.MeasureT-loop
+μ-loop d t boxes₀ i₀ boxes i = 96 - i
+
+loop-holds : tie.Need-loop-holds Inv-loop μ-loop
+loop-holds c = (omega arith, fill-start 256 _ (far-none _ _))
+
+mul-s : tie.Need-mul-s Inv-loop μ-loop
+mul-s c = omega arith
+
+element-copy-out-s : tie.Need-element-copy-out-s Inv-loop μ-loop
+element-copy-out-s c = omega arith
+
+add-i : tie.Need-add-i Inv-loop μ-loop
+add-i c = omega arith
+
+array-write-boxes : tie.Need-array-write-boxes Inv-loop μ-loop
+array-write-boxes c = omega arith
+
+loop-less : tie.Need-loop-less Inv-loop μ-loop
+loop-less c = omega arith
+
+loop-again : tie.Need-loop-again Inv-loop μ-loop
+loop-again c = (
+  omega arith,
+  fill-turn 256 _ _ _ _ (c .before .before .before .loop .inv .1) (omega arith)
+      (⊎-elim (λ w. w .1 ∙ far-b _ _ _ (w .0 .taken)) (λ w. w .1 ∙ far-a _ _ _ (w .0 .left)) (c .if1 .came)),
+)
+
+returns : tie.Need-returns Inv-loop μ-loop
+unfolding column
+returns c =
+    let e : c .before .loop .i ≡ 96 = omega arith in
+    fill-end 256 _ 96 _ (rw e at (c .before .loop .inv .1)) (far-beyond _ _ (search (needs, length-mapped)))
+
+pub far-boxes-spec : {M : Type 1} → statement M
+far-boxes-spec =
+    tie.close
+    (tie.spec
+    Inv-loop
+    μ-loop
+    loop-holds
+    mul-s
+    element-copy-out-s
+    add-i
+    array-write-boxes
+    loop-less
+    loop-again
+    returns)

@@ -1,0 +1,49 @@
+-- `ranks::guess`: the order has at most 96 boxes, so that no rank is above 96.
+use Prim.Native.Nat.{_≤_, _-_}
+use borrow.Author.Needs.{needs}
+use Rattle.layout.specs.Ranks.{Low}
+use Rattle.layout.proofs.Rising.{low-start, low-set}
+use Rattle.layout.proofs.ranks.guess.Statement.{statement}
+use Rattle.layout.proofs.ranks.guess.Tie as tie
+
+abbrev Inv-loop : tie.InvT-loop
+Inv-loop t count₀ order₀ known₀ ranks₀ done₀ count order known ranks done = (known ≤ 96) × Low ranks
+
+abbrev μ-loop : tie.MeasureT-loop
+μ-loop t count₀ order₀ known₀ ranks₀ done₀ count order known ranks done = 96 - done
+
+pub guess-spec : {M : Type 1} → statement M
+guess-spec =
+    tie.close
+    (tie.spec
+    Inv-loop
+    μ-loop
+    (λ c κs. search needs)
+    (λ c κs. search needs)
+    (λ c. (search needs, low-start))
+    (λ c. search needs)
+    (λ c. search needs)
+    (λ c κs. search needs)
+    (λ c. search needs)
+    (λ c. search needs)
+    (λ c κs. search needs)
+    (λ c. search needs)
+    (λ c. search needs)
+    (λ c κs. search needs)
+    (λ c. search needs)
+    (λ c. search needs)
+    (λ c κs. search needs)
+    (λ c κs. search needs)
+    (λ c κs. search needs)
+    (λ c. search needs)
+    (λ c. search needs)
+    (λ c κs. search needs)
+    (λ c κs. search needs)
+    (λ c κs. search needs)
+    (λ c. search needs)
+    (λ c. search needs)
+    (λ c κs. search needs)
+    (λ c κs. search needs)
+    (λ c. search needs)
+    (λ c. (search needs, search low-set))
+    (λ c. search needs))

@@ -1,0 +1,44 @@
+-- Ranks of boxes by their numbers, 0 .. 255: what holds of them while they are raised along the segments.
+use Prim.Native.Nat.{ℕ, _+_, _≤_, _<_}
+use mathlib.Core.Path.{_≡_}
+use mathlib.Core.Bool.{true, false}
+use mathlib.Core.List.{List, [], _∷_, List·Memᴰ}
+use lib.ListN.{length, getD}
+use Rattle.rules.specs.declared.Table.{Table}
+use Rattle.rules.specs.Track.{endB}
+use Rattle.rules.specs.Loop.{chainEnds, hasLoop}
+use Rattle.layout.specs.declared.ranks.Pass.{Pass}
+use Rattle.layout.specs.declared.ranks.Pass.the-variants.{Rising, Raised, TooHigh}
+
+-- Guessed ranks: none is above 96.
+pub record Low (ranks : List ℕ) : Type 0 where
+  pub size : length ranks ≡ 256
+  pub low : (x : ℕ) → getD ranks x 0 ≤ 96
+
+-- A chain of r + 1 segments ends at box x.
+pub record ChainTo (t : Table) (r x : ℕ) : Type 0 where
+  pub last : ℕ
+  pub listed : List·Memᴰ last (chainEnds t r)
+  pub there : endB t last ≡ x
+
+-- Raised ranks: none is above 96 + n, and to a box of rank 97 + r a chain of r + 1 segments leads.
+pub record Reached (t : Table) (ranks : List ℕ) : Type 0 where
+  pub size : length ranks ≡ 256
+  pub bounded : (x : ℕ) → getD ranks x 0 ≤ t .n + 96
+  pub chained : (x r : ℕ) → getD ranks x 0 ≡ 97 + r → ChainTo t r x
+
+-- The sum of all ranks.
+unfoldable pub total : List ℕ → ℕ
+total [] = 0
+total (x ∷ l) = x + total l
+
+-- What a pass tells by its end: there is no loop, there is one, or the sum of all ranks has grown.
+unfoldable pub told : Table → List ℕ → List ℕ → Pass → Type 0
+told t before after Rising = hasLoop t ≡ false
+told t before after TooHigh = hasLoop t ≡ true
+told t before after Raised = total before < total after
+
+-- The end of a pass, with the ranks before and after it.
+pub record Ended (t : Table) (before after : List ℕ) (pass : Pass) : Type 0 where
+  pub reached : Reached t after
+  pub tells : told t before after pass

@@ -1,0 +1,134 @@
+// Codes 10, 11 and 12: the shape of routes, their segments, and the first segments of trains.
+use super::network;
+use rules::Table;
+ghost use mathlib.Core.Path.{_≡_};
+ghost use mathlib.Core.Bool.{false, not};
+ghost use Prim.Native.Nat.{_+_, _≤_};
+ghost use lib.Dec.{eqb};
+ghost use lib.ListN.{getD};
+ghost use Rattle.rules.specs.Rows.{anyOf};
+ghost use Rattle.rules.specs.Track.{trainPlanAt, farBox};
+ghost use Rattle.rules.specs.Placing.{routeShapeFault, routeFault, startFault};
+ghost use Rattle.layout.specs.Ends.{column, placeBreaks, sharesStart};
+
+// Code 10 on a train's direction and route length.
+fn shape_faulty(d: u8, r: u8) -> bool
+    ensures { λ x. ⌜ x ≡ routeShapeFault d r ⌝ }
+{
+    if d > 1 {
+        return true;
+    }
+    network::outside(64, r)
+}
+
+// Code 10: some train has a direction above 1, or a route length outside 1 to 64.
+pub fn some_shape_faulty(t: Table) -> bool
+    requires { ⌜ t .k ≤ 16 ⌝ }
+    ensures { λ r. ⌜ r ≡ anyOf (t .k) (λ i. routeShapeFault (trainPlanAt t i .direction) (trainPlanAt t i .length)) ⌝ }
+{
+    let k = t.k as usize;
+    let mut i: usize = 0;
+    while i < k {
+        let p = t.trains[i];
+        if shape_faulty(p.direction, p.length) {
+            return true;
+        }
+        i += 1;
+    }
+    false
+}
+
+// The far end of one segment and the near end of another are at different boxes.
+fn apart(before: u8, s: u8, near: &[u8; 256], far: &[u8; 256]) -> bool
+    ensures { λ r. ⌜ r ≡ not (eqb (getD (now (far .entry)) before 0) (getD (now (near .entry)) s 0)) ⌝ }
+{
+    far[before as usize] != near[s as usize]
+}
+
+// Code 11 on the route that begins at `start`, by the boxes at the near and the far ends of segments.
+fn route_faulty(
+    routes: &[u8; 1024],
+    start: usize,
+    r: u8,
+    n: u8,
+    near: &[u8; 256],
+    far: &[u8; 256],
+) -> bool
+    requires { ⌜ start + r ≤ 1024 ⌝ }
+    ensures { λ x. ⌜ x ≡ anyOf r (placeBreaks n (now (near .entry)) (now (far .entry)) (now (routes .entry)) start) ⌝ }
+{
+    let length = r as usize;
+    let mut p: usize = 0;
+    // Place p + 1 is looked at, up to the last.
+    while p + 1 <= length {
+        let s = routes[start + p];
+        if network::outside(n, s) {
+            return true;
+        }
+        if p > 0 {
+            if apart(routes[start + p - 1], s, near, far) {
+                return true;
+            }
+        }
+        p += 1;
+    }
+    false
+}
+
+// Code 11: some route has a segment 0 or above n, or one that does not follow the one before.
+pub fn some_route_faulty(t: Table, a: &[u8; 256], b: &[u8; 256]) -> bool
+    requires { ⌜ t .k ≤ 16 ⌝ }
+    requires { ⌜ anyOf (t .k) (λ i. routeShapeFault (trainPlanAt t i .direction) (trainPlanAt t i .length)) ≡ false ⌝ }
+    requires { ⌜ now a ≡ column (farBox t 1) ⌝ }
+    requires { ⌜ now b ≡ column (farBox t 0) ⌝ }
+    ensures { λ r. ⌜ r ≡ anyOf (t .k) (λ i. routeFault t (t .routes) i (trainPlanAt t i .direction) (trainPlanAt t i .length)) ⌝ }
+{
+    let n = t.n;
+    let k = t.k as usize;
+    let mut i: usize = 0;
+    while i < k {
+        let p = t.trains[i];
+        let faulty = if p.direction == 0 {
+            route_faulty(&t.routes, 64 * i, p.length, n, a, b)
+        } else {
+            route_faulty(&t.routes, 64 * i, p.length, n, b, a)
+        };
+        if faulty {
+            return true;
+        }
+        i += 1;
+    }
+    false
+}
+
+// Code 12 at the train with this index: a train before it begins with the same segment.
+fn start_shared(routes: &[u8; 1024], index: usize) -> bool
+    requires { ⌜ index + 1 ≤ 16 ⌝ }
+    ensures { λ r. ⌜ r ≡ anyOf index (sharesStart (now (routes .entry)) (index + 1)) ⌝ }
+{
+    let first = routes[64 * index];
+    let mut j: usize = 0;
+    while j < index {
+        if first == routes[64 * j] {
+            return true;
+        }
+        j += 1;
+    }
+    false
+}
+
+// Code 12: two trains begin with one segment.
+pub fn some_start_shared(t: Table) -> bool
+    requires { ⌜ t .k ≤ 16 ⌝ }
+    ensures { λ r. ⌜ r ≡ anyOf (t .k) (startFault t) ⌝ }
+{
+    let k = t.k as usize;
+    let mut i: usize = 0;
+    while i < k {
+        if start_shared(&t.routes, i) {
+            return true;
+        }
+        i += 1;
+    }
+    false
+}

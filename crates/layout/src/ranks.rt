@@ -1,0 +1,169 @@
+// Code 9: a loop. Boxes get ranks that are to rise along every segment from its A end to its B end. They are guessed by an order
+// in which every box comes after those that lead to it, and then raised where they do not rise, until they all do or one is too
+// high for a line without a loop. The guess is right where code 8 passed and there is no loop, so that one pass is enough; that
+// the answer is right does not rest on it.
+use rules::Segment;
+use rules::Table;
+ghost use mathlib.Core.Path.{_≡_};
+ghost use Prim.Native.Nat.{_≤_, _<_};
+ghost use Rattle.rules.specs.Loop.{hasLoop};
+ghost use Rattle.layout.specs.Ranks.{Low, Reached, Ended};
+
+// How many segments have their B end at each box.
+fn entries(t: Table) -> [u8; 256]
+    requires { ⌜ t .n ≤ 96 ⌝ }
+{
+    let n = t.n as usize;
+    let mut count = [0u8; 256];
+    let mut i: usize = 0;
+    while i < n {
+        let s = t.segments[i];
+        let b = s.b as usize;
+        count[b] = std::num::wrapping_add_u8(count[b], 1);
+        i += 1;
+    }
+    count
+}
+
+// The boxes of 1 .. m that no segment leads to are put first in the order. The result is how many they are.
+fn sources(m: u8, count: &[u8; 256], order: &mut [u8; 96]) -> usize
+    requires { ⌜ m ≤ 96 ⌝ }
+    ensures { λ r. ⌜ r ≤ 96 ⌝ }
+{
+    let mut known: usize = 0;
+    let mut number: u8 = 0;
+    while number < m {
+        number += 1;
+        if count[number as usize] == 0 {
+            order[known] = number;
+            known += 1;
+        }
+    }
+    known
+}
+
+// A byte as an index of a list of 256.
+fn index(x: u8) -> usize
+    ensures { λ r. ⌜ r < 256 ⌝ }
+{
+    x as usize
+}
+
+// The index of the record numbered s; 0 where there is none.
+fn place(s: u8) -> usize
+    ensures { λ r. ⌜ r < 96 ⌝ }
+{
+    let i = std::num::wrapping_sub_u8(s, 1) as usize;
+    if i < 96 {
+        return i;
+    }
+    0
+}
+
+// The box that segment s, with these ends, leads to from box `number`; 0 for none.
+fn leads_to(number: u8, s: u8, ends: Segment) -> u8 {
+    if s == 0 || ends.a != number {
+        return 0;
+    }
+    ends.b
+}
+
+// Box b has one entry less, and with none left it is next in the order. The result is how many boxes the order has.
+fn release(b: u8, count: &mut [u8; 256], order: &mut [u8; 96], known: usize) -> usize
+    requires { ⌜ known ≤ 96 ⌝ }
+    ensures { λ r. ⌜ r ≤ 96 ⌝ }
+{
+    if b == 0 {
+        return known;
+    }
+    let i = b as usize;
+    count[i] = std::num::wrapping_sub_u8(count[i], 1);
+    if count[i] == 0 {
+        if known < 96 {
+            order[known] = b;
+            return known + 1;
+        }
+    }
+    known
+}
+
+// A rank for each box: its place in the order, and 96 for those that the order does not come to.
+fn guess(t: Table) -> [u8; 256]
+    requires { ⌜ t .n ≤ 96 ⌝ }
+    requires { ⌜ t .m ≤ 96 ⌝ }
+    ensures { λ r. ⌜ Low r ⌝ }
+{
+    let mut count = entries(t);
+    let mut order = [0u8; 96];
+    let mut known = sources(t.m, &count, &mut order);
+    let mut ranks = [96u8; 256];
+    let mut done: usize = 0;
+    while done < known {
+        let number = order[done];
+        ranks[index(number)] = done as u8;
+        done += 1;
+        let p = t.boxes[place(number)];
+        let stem = leads_to(number, p.stem, t.segments[place(p.stem)]);
+        known = release(stem, &mut count, &mut order, known);
+        let left = leads_to(number, p.left, t.segments[place(p.left)]);
+        known = release(left, &mut count, &mut order, known);
+        let right = leads_to(number, p.right, t.segments[place(p.right)]);
+        known = release(right, &mut count, &mut order, known);
+    }
+    ranks
+}
+
+// What a pass over all segments ends in: the ranks rise along all of them, some rank was raised, or one would be higher than in
+// any line without a loop.
+pub enum Pass {
+    Rising,
+    Raised,
+    TooHigh,
+}
+
+// One pass: along each segment in turn, the rank at its B end is raised above the one at its A end, where it is not so already.
+fn raise(t: Table, ranks: &mut [u8; 256]) -> Pass
+    requires { ⌜ t .n ≤ 96 ⌝ }
+    requires { ⌜ Reached t (now ranks) ⌝ }
+    ensures { λ r. ⌜ Ended t (now (ranks .entry)) (now (ranks .exit)) r ⌝ }
+{
+    let n = t.n as usize;
+    let highest = t.n + 96;
+    let mut raised = false;
+    let mut i: usize = 0;
+    while i < n {
+        let s = t.segments[i];
+        i += 1;
+        let a = s.a as usize;
+        let b = s.b as usize;
+        let rank = ranks[a];
+        if ranks[b] <= rank {
+            if rank >= highest {
+                return Pass::TooHigh;
+            }
+            ranks[b] = rank + 1;
+            raised = true;
+        }
+    }
+    if raised {
+        return Pass::Raised;
+    }
+    Pass::Rising
+}
+
+// Code 9: some list of segments closes a loop.
+pub fn has_loop(t: Table) -> bool
+    requires { ⌜ t .n ≤ 96 ⌝ }
+    requires { ⌜ t .m ≤ 96 ⌝ }
+    ensures { λ r. ⌜ r ≡ hasLoop t ⌝ }
+{
+    let mut ranks = guess(t);
+    loop {
+        let pass = raise(t, &mut ranks);
+        match pass {
+            Pass::Rising => return false,
+            Pass::TooHigh => return true,
+            Pass::Raised => {}
+        }
+    }
+}

@@ -1,0 +1,124 @@
+-- What is decided of a file, the line that is read from it, and the routes of its trains.
+use Prim.Native.Nat.{ℕ, _+_, _-_, _≤_, _<_}
+use mathlib.Core.Path.{_≡_, sym, _∙_, ap}
+use mathlib.Core.List.{List, []}
+use native.Mathlib.Decide.{ℕ-discrete}
+use native.Mathlib.Omega.{arith}
+use borrow.Author.Tests.{lt-ltb, le-ltb, eq-eqb, ne-eqb}
+use lib.Dec.{eqb}
+use lib.ListN.{length, getD, take, drop}
+use Rattle.rules.specs.declared.Table.{Table}
+use Rattle.rules.specs.declared.Line.{Line}
+use Rattle.rules.specs.Rows.{first, outside}
+use Rattle.rules.specs.Placing.{tableCode}
+use Rattle.rules.specs.File.{byteAt, trainCount, trainsFrom, fileCode, decode, routeCode, routePart}
+use Rattle.rules.specs.Line.{emptyTable, emptyLine, startLine, read}
+use Rattle.rules.proofs.Tests.{or-right, outside-false-iff, first-zero-iff, first-code-iff}
+use Rattle.reading.specs.declared.Decided.{Decided}
+use Rattle.reading.specs.Whole.{earlyCode, decided}
+use Rattle.reading.specs.Start.{Counted}
+use Rattle.reading.proofs.Parts.{route-in, train-room}
+use Rattle.reading.proofs.Codes.{file-early, file-late, whole}
+
+module _ (bytes : List ℕ) where
+  -- What is decided of a file that codes 1 to 5 refuse, and of one that they let through.
+  pub decided-early : (early : ℕ) (t : Table) →
+      early ≡ earlyCode bytes → (early ≡ 0 → ⊥) → t ≡ emptyTable → record { code = early; table = t } ≡ decided bytes
+  unfolding decided
+  decided-early early t e n z =
+      let f : fileCode bytes ≡ early = sym (e ∙ file-early bytes (λ y. n (e ∙ y))) in
+      rw (sym e, f, ne-eqb early 0 n, z)
+
+  pub decided-late : (early code : ℕ) (t : Table) →
+      early ≡ earlyCode bytes →
+      early ≡ 0 →
+      t ≡ decode bytes →
+      code ≡ tableCode t →
+      record { code = code; table = t } ≡ decided bytes
+  unfolding decided
+  decided-late early code t e n z k =
+      let f : fileCode bytes ≡ code = sym (rw z at k ∙ file-late bytes (sym e ∙ n)) in
+      rw (sym e, f, eq-eqb early 0 n, z)
+
+  -- An accepted file: codes 1 to 5 let it through, and its table is decided.
+  accepted-early : fileCode bytes ≡ 0 → earlyCode bytes ≡ 0
+  accepted-early e =
+      elim (ℕ-discrete (earlyCode bytes) 0) [
+        | yes z ↦ z
+        | no n ↦ file-early bytes n ∙ e
+      ]
+
+  module _ (d : Decided) (s : d ≡ decided bytes) where
+    code-decided : d .code ≡ fileCode bytes
+    unfolding decided
+    code-decided = ap (λ (x : Decided). x .code) s
+
+    table-decided : d .code ≡ 0 → d .table ≡ decode bytes
+    unfolding decided
+    table-decided e = ap (λ (x : Decided). x .table) s ∙ rw (eq-eqb _ _ (accepted-early (sym code-decided ∙ e)))
+
+    pub counted : d .code ≡ 0 → Counted (d .table)
+    unfolding decode
+    counted e =
+        let w = whole bytes (accepted-early (sym code-decided ∙ e)) in
+        rw (table-decided e) (record { boxes = w .boxes; trains = w .trains })
+
+    pub read-refused : (l : Line) → (d .code ≡ 0 → ⊥) → l ≡ emptyLine → record { code = d .code; line = l } ≡ read bytes
+    unfolding read
+    read-refused l n e = rw (sym code-decided, ne-eqb _ _ n, e)
+
+    pub read-accepted : (l : Line) → d .code ≡ 0 → l ≡ startLine (d .table) → record { code = 0; line = l } ≡ read bytes
+    unfolding read
+    read-accepted l z e = rw (sym code-decided, eq-eqb _ _ z, e, table-decided z)
+
+    -- The code of train i's route.
+    module _ (i : ℕ) where
+      pub route-refused : (d .code ≡ 0 → ⊥) → d .code ≡ routeCode bytes i
+      unfolding routeCode first
+      route-refused n = rw (sym code-decided, ne-eqb _ _ n)
+
+      module _ (z : d .code ≡ 0) where
+        trains-decided : d .table .k ≡ trainCount bytes
+        unfolding decode
+        trains-decided = ap (λ (x : Table). x .k) (table-decided z)
+
+        pub route-none : i ≡ 0 → 14 ≡ routeCode bytes i
+        unfolding routeCode first outside
+        route-none e = rw (sym code-decided, eq-eqb _ _ z, eq-eqb _ _ e)
+
+        pub route-above : d .table .k < i → 14 ≡ routeCode bytes i
+        unfolding routeCode first outside
+        route-above l =
+            let h : trainCount bytes < i = omega (arith, trains-decided) in
+            rw (sym code-decided, eq-eqb _ _ z, or-right (eqb i 0) _ (lt-ltb _ _ h))
+
+        pub route-within : (i ≡ 0 → ⊥) → i ≤ d .table .k → 0 ≡ routeCode bytes i
+        unfolding routeCode first outside
+        route-within n l =
+            let h : i ≤ trainCount bytes = omega (arith, trains-decided) in
+            rw (sym code-decided, eq-eqb _ _ z, ne-eqb _ _ n, le-ltb _ _ h)
+
+  -- The route of train i as a part of the file: empty where it is refused, else a part that is within the file.
+  module _ (i : ℕ) where
+    pub part-none : (routeCode bytes i ≡ 0 → ⊥) → [] ≡ routePart bytes i
+    unfolding routePart
+    part-none n = rw (ne-eqb _ _ n)
+
+    module _ (z : routeCode bytes i ≡ 0) where
+      pub within : (fileCode bytes ≡ 0) × ((1 ≤ i) × (i ≤ trainCount bytes))
+      unfolding routeCode
+      within =
+          let (file, (train, _)) = simp (first-code-iff, first-zero-iff, outside-false-iff) at z in
+          (file, train)
+
+      pub part-some : (at size : ℕ) →
+          at ≡ trainsFrom bytes (i - 1) → size ≡ getD bytes (at + 1) 0 → take size (drop (at + 2) bytes) ≡ routePart bytes i
+      unfolding routePart
+      part-some at size e f =
+          let h : i - 1 + 1 ≡ i = omega (arith, within .1) in
+          rw (eq-eqb _ _ z, sym h, f) (sym (route-in bytes (i - 1) at e))
+
+      pub part-room : (at : ℕ) → at ≡ trainsFrom bytes (i - 1) → at + 2 + getD bytes (at + 1) 0 ≤ length bytes
+      unfolding trainCount byteAt
+      part-room at e =
+          train-room bytes (whole bytes (accepted-early (within .0))) (i - 1) at (omega (arith, within .1)) e

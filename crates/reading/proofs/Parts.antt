@@ -1,0 +1,145 @@
+-- Where the records of a file stand, and that they are within a whole file.
+use Prim.Native.Nat.{ℕ, zero, suc, _+_, _-_, _*_, _≤_, _<_, min}
+use mathlib.Core.Path.{_≡_, sym, _∙_, ap}
+use mathlib.Core.List.{List}
+use native.Mathlib.Numerals.{add-one}
+use native.Mathlib.Omega.{arith}
+use lib.ListN.{length, getD, take, drop, replicate}
+use lib.Seq.{sets}
+use Rattle.rules.specs.File.{versionIn, decode, segmentSize, boxSize, trainSize, byteAt, segmentCount, boxCount, trainCount, segmentStart, boxStart, trainsFrom, trainStart, fileLength, segmentIn, planIn, trainPlanIn, routeIn}
+use Rattle.rules.specs.Rows.{filled, listOf}
+use Rattle.rules.specs.Track.{noSegment, noBoxPlan, noTrainPlan}
+use Rattle.rules.proofs.Rows.{join-none, filled-none}
+use Rattle.rules.specs.declared.Segment.{Segment}
+use Rattle.rules.specs.declared.BoxPlan.{BoxPlan}
+use Rattle.rules.specs.declared.TrainPlan.{TrainPlan}
+use Rattle.reading.specs.Whole.{Whole, routesUpTo}
+use Rattle.reading.proofs.Fill.{join-set}
+
+module _ (bytes : List ℕ) where
+  pub segment-start : (i : ℕ) → segmentStart bytes (i + 1) ≡ 8 + 2 * i
+  unfolding segmentStart segmentSize
+  segment-start i = omega arith
+
+  pub box-start : (i : ℕ) → boxStart bytes (i + 1) ≡ 8 + 2 * segmentCount bytes + 5 * i
+  unfolding boxStart segmentSize boxSize
+  box-start i = omega arith
+
+  -- Where the train records begin, and where the next one begins.
+  pub trains-none : trainsFrom bytes 0 ≡ 8 + 2 * segmentCount bytes + 5 * boxCount bytes
+  unfolding trainsFrom
+  trains-none = box-start (boxCount bytes)
+
+  pub trains-more : (j : ℕ) → trainsFrom bytes (j + 1) ≡ trainsFrom bytes j + 2 + byteAt bytes (trainsFrom bytes j + 1)
+  unfolding trainsFrom trainSize
+  trains-more j = rw (add-one j)
+
+  pub train-start : (i : ℕ) → trainStart bytes (i + 1) ≡ trainsFrom bytes i
+  unfolding trainStart
+  train-start i = let e : i + 1 - 1 ≡ i = omega arith in rw e
+
+  -- The starts rise.
+  pub trains-rise : (i j : ℕ) → trainsFrom bytes i ≤ trainsFrom bytes (i + j)
+  trains-rise i zero = let e : i + zero ≡ i = omega arith in rw e (omega arith)
+  trains-rise i (suc j) =
+      let e : i + suc j ≡ i + j + 1 = omega arith in
+      rw e (omega (arith, trains-more (i + j), trains-rise i j))
+
+  -- Of a whole file: the segments and boxes are within it, and so is each train's record.
+  pub whole-boxes : Whole bytes → 8 + 2 * segmentCount bytes + 5 * boxCount bytes ≤ length bytes
+  unfolding fileLength
+  whole-boxes w =
+      let e : 0 + trainCount bytes ≡ trainCount bytes = omega arith in
+      omega (arith, w .exact, trains-none, rw e at (trains-rise 0 (trainCount bytes)))
+
+  pub whole-train : Whole bytes → (i : ℕ) → i < trainCount bytes → trainsFrom bytes i + 2 + byteAt bytes (trainsFrom bytes i + 1) ≤ length bytes
+  unfolding fileLength
+  whole-train w i h =
+      let e : i + 1 + (trainCount bytes - (i + 1)) ≡ trainCount bytes = omega arith in
+      omega (arith, w .exact, trains-more i, rw e at (trains-rise (i + 1) (trainCount bytes - (i + 1))))
+
+  -- The records of the file, by the bytes that they are read from.
+  pub segment-in : (i : ℕ) → segmentIn bytes (i + 1) ≡ record { a = getD bytes (8 + 2 * i) 0; b = getD bytes (8 + 2 * i + 1) 0 }
+  unfolding segmentIn byteAt
+  segment-in i = rw segment-start
+
+  pub plan-in : (i : ℕ) →
+      let at = 8 + 2 * getD bytes 5 0 + 5 * i in
+      planIn bytes (i + 1)
+      ≡ record {
+        kind = getD bytes at 0;
+        stem = getD bytes (at + 1) 0;
+        left = getD bytes (at + 2) 0;
+        right = getD bytes (at + 3) 0;
+        position = getD bytes (at + 4) 0;
+      }
+  unfolding planIn byteAt segmentCount
+  plan-in i = rw box-start
+
+  pub train-plan-in : (i at : ℕ) →
+      at ≡ trainsFrom bytes i →
+      trainPlanIn bytes (i + 1) ≡ record { direction = getD bytes at 0; length = getD bytes (at + 1) 0 }
+  unfolding trainPlanIn byteAt
+  train-plan-in i at e = rw (train-start, sym e)
+
+  -- The train records that are left are within a whole file, each with at least two bytes.
+  rest : (i j : ℕ) → trainsFrom bytes i + 2 * j ≤ trainsFrom bytes (i + j)
+  rest i zero = let e : i + zero ≡ i = omega arith in rw e (omega arith)
+  rest i (suc j) =
+      let e : i + suc j ≡ i + j + 1 = omega arith in
+      rw e (omega (arith, trains-more (i + j), rest i j))
+
+  pub whole-rest : Whole bytes → (i : ℕ) → i ≤ trainCount bytes → trainsFrom bytes i + 2 * (trainCount bytes - i) ≤ length bytes
+  unfolding fileLength
+  whole-rest w i h =
+      let e : i + (trainCount bytes - i) ≡ trainCount bytes = omega arith in
+      omega (arith, w .exact, rw e at (rest i (trainCount bytes - i)))
+
+  pub trains-next : (i at : ℕ) → at ≡ trainsFrom bytes i → at + 2 + getD bytes (at + 1) 0 ≡ trainsFrom bytes (i + 1)
+  unfolding byteAt
+  trains-next i at e = rw (trains-more, sym e)
+
+  -- The routes: none, and one more.
+  pub route-in : (i at : ℕ) → at ≡ trainsFrom bytes i → routeIn bytes (i + 1) ≡ take (getD bytes (at + 1) 0) (drop (at + 2) bytes)
+  unfolding routeIn byteAt trainSize
+  route-in i at e = rw (train-start, sym e)
+
+  pub routes-none : replicate 1024 0 ≡ routesUpTo bytes 0
+  unfolding routesUpTo
+  routes-none = sym (ap (λ (l : List ℕ). filled 1024 0 l) (join-none _) ∙ filled-none 1024 0)
+
+  pub routes-more : (i at count : ℕ) (l : List ℕ) →
+      i < 16 →
+      at ≡ trainsFrom bytes i →
+      count ≡ min (getD bytes (at + 1) 0) 64 →
+      l ≡ routesUpTo bytes i →
+      sets l (64 * i) (take count (drop (at + 2) bytes)) ≡ routesUpTo bytes (i + 1)
+  unfolding routesUpTo
+  routes-more i at count l h e k r =
+      join-set (routeIn bytes) 0 i count (getD bytes (at + 1) 0) l (drop (at + 2) bytes) h r (route-in i at e) k
+
+  -- Train i's record, by where it begins.
+  pub train-room : Whole bytes → (i at : ℕ) → i < getD bytes 7 0 → at ≡ trainsFrom bytes i → at + 2 + getD bytes (at + 1) 0 ≤ length bytes
+  unfolding trainCount byteAt
+  train-room w i at h e = rw e (whole-train w i h)
+
+  -- The table record, by its parts.
+  pub decode-of : (v : ℕ) (s : List Segment) (b : List BoxPlan) (t : List TrainPlan) (r : List ℕ) →
+      v ≡ versionIn bytes →
+      s ≡ filled 96 noSegment (listOf (segmentCount bytes) (segmentIn bytes)) →
+      b ≡ filled 96 noBoxPlan (listOf (boxCount bytes) (planIn bytes)) →
+      t ≡ filled 16 noTrainPlan (listOf (trainCount bytes) (trainPlanIn bytes)) →
+      r ≡ routesUpTo bytes (trainCount bytes) →
+      record {
+        version = v;
+        n = segmentCount bytes;
+        m = boxCount bytes;
+        k = trainCount bytes;
+        segments = s;
+        boxes = b;
+        trains = t;
+        routes = r;
+      }
+      ≡ decode bytes
+  unfolding decode routesUpTo
+  decode-of v s b t r e f g h k = rw (e, f, g, h, k)

@@ -9,7 +9,7 @@ use crate::text::add_hex;
 pub const LONGEST: usize = 4800;
 
 // Decides a file. A refused file's line has the reader's code alone, an accepted one's also the writer's answers and the routes.
-pub fn decide(file: &[u8], out: &mut [u8], filled: usize) -> usize {
+pub(crate) fn decide(file: &[u8], out: &mut [u8], filled: usize) -> usize {
     let outcome = reading::read(file);
     let code = outcome.code;
     let read = add_decimal(out, filled, code);

@@ -13,7 +13,7 @@ pub struct Place {
 }
 
 // Decides the file of the next record.
-pub fn decide_next(corpus: &[u8], place: Place, base: &mut [u8], out: &mut [u8]) -> Place {
+pub(crate) fn decide_next(corpus: &[u8], place: Place, base: &mut [u8], out: &mut [u8]) -> Place {
     let next = place.next;
     if next >= corpus.len() {
         return end(corpus, place);

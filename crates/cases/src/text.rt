@@ -2,7 +2,7 @@
 // filled then. A full buffer is written out and filled anew.
 use libc::STDOUT_FILENO;
 
-pub fn add(out: &mut [u8], filled: usize, byte: u8) -> usize {
+pub(crate) fn add(out: &mut [u8], filled: usize, byte: u8) -> usize {
     if filled < out.len() {
         out[filled] = byte;
         return filled + 1;
@@ -16,13 +16,13 @@ pub fn add(out: &mut [u8], filled: usize, byte: u8) -> usize {
 }
 
 // Writes out the part that is filled.
-pub fn flush(out: &[u8], filled: usize) {
+pub(crate) fn flush(out: &[u8], filled: usize) {
     if filled <= out.len() {
         io::write_all(STDOUT_FILENO, &out[0..filled]);
     }
 }
 
-pub fn add_decimal(out: &mut [u8], filled: usize, number: u8) -> usize {
+pub(crate) fn add_decimal(out: &mut [u8], filled: usize, number: u8) -> usize {
     let mut digits = [0u8; 20];
     let length = io::decimal(number as u64, &mut digits);
     add_all(out, filled, &digits[..length])
@@ -39,7 +39,7 @@ fn add_all(out: &mut [u8], filled: usize, bytes: &[u8]) -> usize {
 }
 
 // Two digits for each byte.
-pub fn add_hex(out: &mut [u8], filled: usize, bytes: &[u8]) -> usize {
+pub(crate) fn add_hex(out: &mut [u8], filled: usize, bytes: &[u8]) -> usize {
     let mut at = filled;
     let mut i = 0;
     while i < bytes.len() {

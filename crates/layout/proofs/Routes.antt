@@ -6,11 +6,11 @@ use mathlib.Core.List.{List}
 use native.Mathlib.Decide.{decLt}
 use native.Mathlib.Numerals.{add-one}
 use native.Mathlib.Omega.{arith}
-use borrow.Author.Tests.{lt-ltb, le-ltb, eq-eqb, ne-eqb, ltb-false}
+use borrow.Author.Tests.{le-ltb, eq-eqb, ne-eqb, ltb-false}
 use lib.Dec.{eqb, ltb}
 use lib.ListN.{length, getD}
 use Rattle.rules.proofs.Tests.{tests, or-false-left, or-false-right}
-use Rattle.rules.proofs.Rows.{any-false-at, any-same, nth-at}
+use Rattle.rules.proofs.Rows.{any-false-at, any-same, nth-at, route-at, route-first}
 use Rattle.rules.specs.declared.TrainPlan.{TrainPlan}
 use Rattle.rules.specs.declared.Table.{Table}
 use Rattle.rules.specs.Rows.{outside, anyOf, nth}
@@ -20,17 +20,11 @@ use Rattle.layout.specs.Ends.{column, placeBreaks, sharesStart}
 use Rattle.layout.proofs.Laws.{far-column}
 
 -- The segment at place p of the route of the train with index i.
-route-at : (routes : List ℕ) (i p : ℕ) → 1 ≤ p → p ≤ 64 → routeAt routes (i + 1) p ≡ getD routes (64 * i + p - 1) 0
-unfolding routeAt
-route-at routes i zero l h = absurd (omega arith)
-route-at routes i (suc p) l h =
+route-place : (routes : List ℕ) (i p : ℕ) → 1 ≤ p → p ≤ 64 → routeAt routes (i + 1) p ≡ getD routes (64 * i + p - 1) 0
+route-place routes i zero l h = absurd (omega arith)
+route-place routes i (suc p) l h =
     let e : 64 * i + suc p - 1 ≡ 64 * i + p = omega arith in
-    rw (add-one, e, lt-ltb p 64 (omega arith))
-
-first-at : (routes : List ℕ) (i : ℕ) → routeAt routes (i + 1) 1 ≡ getD routes (64 * i) 0
-first-at routes i =
-    let e : 64 * i + 1 - 1 ≡ 64 * i = omega arith in
-    route-at routes i 1 (omega arith) (omega arith) ∙ rw e
+    rw e (rw (add-one p) at (route-at routes i p (omega arith)))
 
 -- Code 11 at the place with index p: an outside segment; one that does not follow the one before; and neither.
 module _ (n : ℕ) (near far routes : List ℕ) (start p : ℕ) where
@@ -62,9 +56,9 @@ module _ (t : Table) (d i : ℕ) (near far : List ℕ) (nears : (x : ℕ) → ge
         | yes k ↦
             let e : 64 * i + (p - 1) - 1 ≡ 64 * i + p - 2 = omega arith in
             let b : routeAt (t .routes) (i + 1) (p - 1) ≡ getD (t .routes) (64 * i + p - 2) 0 =
-            rw e at (route-at (t .routes) i (p - 1) (omega arith) (omega arith)) in
-            rw (route-at (t .routes) i p l h, b, fars, nears)
-        | no k ↦ rw (route-at (t .routes) i p l h, le-ltb 1 p (omega arith))
+            rw e at (route-place (t .routes) i (p - 1) (omega arith) (omega arith)) in
+            rw (route-place (t .routes) i p l h, b, fars, nears)
+        | no k ↦ rw (route-place (t .routes) i p l h, le-ltb 1 p (omega arith))
       ]
 
   route-same : (r : ℕ) → r ≤ 64 → anyOf r (placeBreaks (t .n) near far (t .routes) (64 * i)) ≡ routeFault t (t .routes) (i + 1) d r
@@ -110,11 +104,11 @@ module _ (t : Table) (i : ℕ) (a b : List ℕ) (r : Bool) (sized : length (t .s
 module _ (routes : List ℕ) (i j : ℕ) where
   pub starts-same : getD routes (64 * i) 0 ≡ getD routes (64 * j) 0 → sharesStart routes (i + 1) (j + 1) ≡ true
   unfolding sharesStart
-  starts-same e = rw (first-at routes i, first-at routes j) (eq-eqb _ _ e)
+  starts-same e = rw (route-first routes i, route-first routes j) (eq-eqb _ _ e)
 
   pub starts-differ : (getD routes (64 * i) 0 ≡ getD routes (64 * j) 0 → ⊥) → sharesStart routes (i + 1) (j + 1) ≡ false
   unfolding sharesStart
-  starts-differ e = rw (first-at routes i, first-at routes j) (ne-eqb _ _ e)
+  starts-differ e = rw (route-first routes i, route-first routes j) (ne-eqb _ _ e)
 
 -- Code 12 at the train with index i; r is what a function answered for it, and v what a branch found.
 pub start-answer : (t : Table) (i : ℕ) (r v : Bool) → r ≡ anyOf i (sharesStart (t .routes) (i + 1)) → r ≡ v → startFault t (i + 1) ≡ v

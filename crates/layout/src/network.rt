@@ -12,7 +12,7 @@ ghost use Rattle.rules.specs.Network.{endsFault, placeFault, planFault, lists, 
 ghost use Rattle.layout.specs.Ends.{column, endsIn, boxFaultOn};
 
 // x is 0 or above n.
-pub fn outside(n: u8, x: u8) -> bool
+pub(crate) fn outside(n: u8, x: u8) -> bool
     ensures { λ r. ⌜ r ≡ outside n x ⌝ }
 {
     if x == 0 {
@@ -22,7 +22,7 @@ pub fn outside(n: u8, x: u8) -> bool
 }
 
 // The box at the far end of each segment in direction d, by the segment's number: B ends for 0, A ends for 1.
-pub fn far_boxes(t: Table, d: u8) -> [u8; 256]
+pub(crate) fn far_boxes(t: Table, d: u8) -> [u8; 256]
     ensures { λ r. ⌜ r ≡ column (farBox t d) ⌝ }
 {
     let mut boxes = [0u8; 256];
@@ -49,7 +49,7 @@ fn ends_faulty(m: u8, a: u8, b: u8) -> bool
 }
 
 // Code 6: some segment has an end at no box, or both ends at one box.
-pub fn some_ends_faulty(t: Table) -> bool
+pub(crate) fn some_ends_faulty(t: Table) -> bool
     requires { ⌜ t .n ≤ 96 ⌝ }
     ensures { λ r. ⌜ r ≡ anyOf (t .n) (endsFault t) ⌝ }
 {
@@ -122,7 +122,7 @@ fn plan_faulty(n: u8, p: BoxPlan) -> bool
 }
 
 // Code 7: some box is not as its kind asks.
-pub fn some_plan_faulty(t: Table) -> bool
+pub(crate) fn some_plan_faulty(t: Table) -> bool
     requires { ⌜ t .m ≤ 96 ⌝ }
     ensures { λ r. ⌜ r ≡ anyOf (t .m) (λ b. planFault (t .n) (planAt t b)) ⌝ }
 {
@@ -205,7 +205,7 @@ fn box_faulty(number: u8, p: BoxPlan, stem: Segment, left: Segment, right: Segme
 }
 
 // Code 8: some box lists a segment without an end there, or a branch on the stem's side.
-pub fn some_box_faulty(t: Table, a: &[u8; 256], b: &[u8; 256]) -> bool
+pub(crate) fn some_box_faulty(t: Table, a: &[u8; 256], b: &[u8; 256]) -> bool
     requires { ⌜ t .m ≤ 96 ⌝ }
     requires { ⌜ now a ≡ column (farBox t 1) ⌝ }
     requires { ⌜ now b ≡ column (farBox t 0) ⌝ }
@@ -241,7 +241,7 @@ fn lists(p: BoxPlan, s: u8) -> bool
 }
 
 // Code 8: some segment is not listed by the box at one of its ends. No end is without its box: code 6 comes before.
-pub fn some_unlisted(t: Table) -> bool
+pub(crate) fn some_unlisted(t: Table) -> bool
     requires { ⌜ t .n ≤ 96 ⌝ }
     requires { ⌜ t .m ≤ 96 ⌝ }
     requires { ⌜ anyOf (t .n) (endsFault t) ≡ false ⌝ }

@@ -22,7 +22,7 @@ fn shape_faulty(d: u8, r: u8) -> bool
 }
 
 // Code 10: some train has a direction above 1, or a route length outside 1 to 64.
-pub fn some_shape_faulty(t: Table) -> bool
+pub(crate) fn some_shape_faulty(t: Table) -> bool
     requires { ⌜ t .k ≤ 16 ⌝ }
     ensures { λ r. ⌜ r ≡ anyOf (t .k) (λ i. routeShapeFault (trainPlanAt t i .direction) (trainPlanAt t i .length)) ⌝ }
 {
@@ -76,7 +76,7 @@ fn route_faulty(
 }
 
 // Code 11: some route has a segment 0 or above n, or one that does not follow the one before.
-pub fn some_route_faulty(t: Table, a: &[u8; 256], b: &[u8; 256]) -> bool
+pub(crate) fn some_route_faulty(t: Table, a: &[u8; 256], b: &[u8; 256]) -> bool
     requires { ⌜ t .k ≤ 16 ⌝ }
     requires { ⌜ anyOf (t .k) (λ i. routeShapeFault (trainPlanAt t i .direction) (trainPlanAt t i .length)) ≡ false ⌝ }
     requires { ⌜ now a ≡ column (farBox t 1) ⌝ }
@@ -118,7 +118,7 @@ fn start_shared(routes: &[u8; 1024], index: usize) -> bool
 }
 
 // Code 12: two trains begin with one segment.
-pub fn some_start_shared(t: Table) -> bool
+pub(crate) fn some_start_shared(t: Table) -> bool
     requires { ⌜ t .k ≤ 16 ⌝ }
     ensures { λ r. ⌜ r ≡ anyOf (t .k) (startFault t) ⌝ }
 {

@@ -115,7 +115,7 @@ fn guess(t: Table) -> [u8; 256]
 
 // What a pass over all segments ends in: the ranks rise along all of them, some rank was raised, or one would be higher than in
 // any line without a loop.
-pub enum Pass {
+enum Pass {
     Rising,
     Raised,
     TooHigh,
@@ -152,7 +152,7 @@ fn raise(t: Table, ranks: &mut [u8; 256]) -> Pass
 }
 
 // Code 9: some list of segments closes a loop.
-pub fn has_loop(t: Table) -> bool
+pub(crate) fn has_loop(t: Table) -> bool
     requires { ⌜ t .n ≤ 96 ⌝ }
     requires { ⌜ t .m ≤ 96 ⌝ }
     ensures { λ r. ⌜ r ≡ hasLoop t ⌝ }

@@ -19,9 +19,9 @@ use Rattle.rules.specs.declared.Message.the-variants.{Idle}
 use Rattle.rules.specs.declared.SwitchBox.{SwitchBox}
 use Rattle.rules.specs.Rows.{listOf, filled, outside, nth}
 use Rattle.rules.specs.Track.{noSegment, noTrainPlan, noBoxPlan, segmentAt, planAt, trainPlanAt, routeAt, endA, endB, farBox}
-use Rattle.rules.specs.Line.{noBox, noTrain, setHolder, startBox, startLine, startTrain, startsOn, startHolder}
-use Rattle.rules.proofs.Rows.{nth-at, list-length, list-at, list-same, filled-list-at}
-use Rattle.reading.specs.Start.{startBoxAfter, boxesAfter}
+use Rattle.rules.specs.Line.{noBox, noTrain, setHolder, startBox, startLine, startTrain, startsOn, startHolder, startBoxWith}
+use Rattle.rules.proofs.Rows.{nth-at, list-length, list-at, list-same, filled-list-at, route-first}
+use Rattle.reading.specs.Start.{boxesAfter}
 
 module _ (t : Table) where
   -- Train and box of the table by their place in its arrays.
@@ -51,8 +51,8 @@ module _ (t : Table) where
 
   pub free-box : (i : ℕ) →
       let p = getD (t .boxes) i noBoxPlan in
-      startBoxAfter t 0 (i + 1) ≡ record { sensor = false; position = p .position; lock = 0; stem = 0; left = 0; right = 0 }
-  unfolding startBoxAfter startHolder
+      startBoxWith t 0 (i + 1) ≡ record { sensor = false; position = p .position; lock = 0; stem = 0; left = 0; right = 0 }
+  unfolding startBoxWith startHolder
   free-box i = rw plan-at
 
 -- A list of which one record changes.
@@ -112,14 +112,14 @@ module _ (t : Table) (j : ℕ) where
   holder-elsewhere b s e = holder-more b s ∙ rw (starts-elsewhere b s e)
 
   -- The box ahead after the train, and any other box.
-  box-here : (b : ℕ) → aheadOf ≡ b → setHolder (planAt t b) (startBoxAfter t j b) firstOf (j + 1) ≡ startBoxAfter t (j + 1) b
-  unfolding setHolder startBoxAfter
+  box-here : (b : ℕ) → aheadOf ≡ b → setHolder (planAt t b) (startBoxWith t j b) firstOf (j + 1) ≡ startBoxWith t (j + 1) b
+  unfolding setHolder startBoxWith
   box-here b e =
       let p = planAt t b in
       rw (holder-here b (p .stem) e, holder-here b (p .left) e, holder-here b (p .right) e)
 
-  box-elsewhere : (b : ℕ) → (aheadOf ≡ b → ⊥) → startBoxAfter t j b ≡ startBoxAfter t (j + 1) b
-  unfolding startBoxAfter
+  box-elsewhere : (b : ℕ) → (aheadOf ≡ b → ⊥) → startBoxWith t j b ≡ startBoxWith t (j + 1) b
+  unfolding startBoxWith
   box-elsewhere b e =
       let p = planAt t b in
       rw (holder-elsewhere b (p .stem) e, holder-elsewhere b (p .left) e, holder-elsewhere b (p .right) e)
@@ -133,19 +133,19 @@ module _ (t : Table) (j : ℕ) where
       set l b (setHolder (planAt t (b + 1)) (getD l b noBox) firstOf (j + 1)) ≡ boxesAfter t (j + 1)
   unfolding boxesAfter
   boxes-more l b h e k a =
-      let f = startBoxAfter t j in
+      let f = startBoxWith t j in
       let n : b < length (listOf (t .m) f) = simp list-length (omega arith) in
       let x : getD l b noBox ≡ f (b + 1) = rw e (filled-list-at f noBox 96 (t .m) b k (omega arith)) in
       rw (x, e, box-here (b + 1) a) (set-filled 96 noBox _ _ b (omega arith) n)
       ∙ ap (λ (r : List SwitchBox). filled 96 noBox r)
-      (list-set (t .m) f (startBoxAfter t (j + 1)) noBox b k (λ i _ q. box-elsewhere (i + 1) (λ r. q (omega arith))))
+      (list-set (t .m) f (startBoxWith t (j + 1)) noBox b k (λ i _ q. box-elsewhere (i + 1) (λ r. q (omega arith))))
 
   boxes-same : (l : List SwitchBox) → l ≡ boxesAfter t j → (aheadOf ≡ 0) ⊎ (t .m < aheadOf) → l ≡ boxesAfter t (j + 1)
   unfolding boxesAfter
   boxes-same l e o =
       e
       ∙ ap (λ (r : List SwitchBox). filled 96 noBox r)
-      (list-same (startBoxAfter t j) (startBoxAfter t (j + 1)) (t .m)
+      (list-same (startBoxWith t j) (startBoxWith t (j + 1)) (t .m)
       (λ i q. box-elsewhere (i + 1) (λ r. ⊎-elim (λ z. omega arith) (λ z. omega arith) o)))
 
 -- What the place of a record says of its number x: there is none, or it is the one before x.
@@ -199,12 +199,6 @@ module _ (t : Table) where
   far-out d s p h e l =
       sym (far-of d s noSegment (no-segment s h (place-out s 96 p (omega arith) e l)) ∙ cond-same (eqb d 0) 0)
 
-  first-segment : (i : ℕ) → routeAt (t .routes) (i + 1) 1 ≡ getD (t .routes) (64 * i) 0
-  unfolding routeAt
-  first-segment i =
-      let e : 64 * i + 0 ≡ 64 * i = omega arith in
-      rw add-one (ap (λ (n : ℕ). getD (t .routes) n 0) e)
-
   -- A turn over train j + 1, where a is the box ahead and b the place of its record.
   module _
       (j : ℕ) (l : List SwitchBox) (a b : ℕ)
@@ -213,14 +207,14 @@ module _ (t : Table) where
       (f : a ≡ farBox t (getD (t .trains) j noTrainPlan .direction) (getD (t .routes) (64 * j) 0))
       (g : b ≡ cond (outside (t .m) a) 96 (a - 1)) where
     ahead : aheadOf t j ≡ a
-    ahead = rw (train-plan-at t j, first-segment j) (sym f)
+    ahead = rw (train-plan-at t j, route-first (t .routes) j) (sym f)
 
     pub turn-here :
         b < 96 →
         set l b (setHolder (getD (t .boxes) b noBoxPlan) (getD l b noBox) (getD (t .routes) (64 * j) 0) (j + 1)) ≡ boxesAfter t (j + 1)
     turn-here k =
         let q = place-in a (t .m) b h g k in
-        rw (sym (plan-at t b), sym (first-segment j)) (boxes-more t j l b h e (q .1) (ahead ∙ q .0))
+        rw (sym (plan-at t b), sym (route-first (t .routes) j)) (boxes-more t j l b h e (q .1) (ahead ∙ q .0))
 
     pub turn-nowhere : 96 ≤ b → l ≡ boxesAfter t (j + 1)
     turn-nowhere k =
@@ -232,5 +226,5 @@ module _ (t : Table) where
       b ≡ boxesAfter t (t .k) →
       r ≡ filled 16 noTrain (listOf (t .k) (startTrain t)) →
       record { table = t; boxes = b; trains = r; routes = t .routes } ≡ startLine t
-  unfolding startLine startBox boxesAfter startBoxAfter
+  unfolding startLine startBox boxesAfter startBoxWith
   start-line b r e f = rw (e, f)

@@ -10,9 +10,9 @@ use lib.ListN.{length}
 use Rattle.rules.specs.Rows.{Row, _if_, first}
 use Rattle.rules.specs.Network.{headRows, limitsFault}
 use Rattle.rules.specs.Placing.{tableCode}
-use Rattle.rules.specs.File.{marked, versionIn, segmentCount, boxCount, trainCount, fileLength, fileCode, decode}
+use Rattle.rules.specs.File.{marked, versionIn, segmentCount, boxCount, trainCount, fileLength, fileCode, decode, earlyRows}
 use Rattle.rules.proofs.Tests.{tests, facts, outside-false-iff, not-of-true, not-of-false, first-none, first-zero-iff, first-hit, first-skip, first-before}
-use Rattle.reading.specs.Whole.{earlyRows, earlyCode, Whole}
+use Rattle.reading.specs.Whole.{earlyCode, Whole}
 
 -- The head's rows of a file.
 abbrev headOf : List ℕ → List Row

@@ -8,7 +8,7 @@ use native.Mathlib.Omega.{arith}
 use lib.ListN.{length, getD, set, take, drop, replicate, length-append, length-take, length-drop, replicate-append-replicate}
 use lib.Seq.{sets, take-all, take-take, take-suc, getD-drop, length-take-le}
 use Rattle.rules.specs.Rows.{listOf, joinOf, filled}
-use Rattle.rules.proofs.Rows.{list-none, list-more, list-length, join-more, join-length, filled-none, filled-length, filled-set, take-replicate}
+use Rattle.rules.proofs.Rows.{list-none, list-more, list-length, join-more, join-length, filled-none, filled-length, filled-set, take-replicate, sets-append}
 
 module _ {ℓ} {A : Type ℓ} where
   -- The array before the first record.
@@ -23,13 +23,6 @@ module _ {ℓ} {A : Type ℓ} where
       (filled-set n d (f (i + 1)) (listOf i f) i (list-length f i) h
       ∙ ap (λ (r : List A). filled n d r) (sym (list-more f i)))
 
-  -- A run of stores with one more.
-  sets-more : (w l : List A) (at : ℕ) (a : A) → set (sets l at w) (at + length w) a ≡ sets l at (w ++ (a ∷ []))
-  sets-more [] l at a = let e : at + 0 ≡ at = omega arith in rw e
-  sets-more (x ∷ w) l at a =
-      let e : at + suc (length w) ≡ suc at + length w = omega arith in
-      rw e (sets-more w (set l at x) (suc at) a)
-
   -- A part that is copied, with one more.
   pub copy-more : (l s : List A) (place from j : ℕ) (d : A) →
       from + j < length s →
@@ -40,7 +33,7 @@ module _ {ℓ} {A : Type ℓ} where
       let k : j < length (drop from s) = simp length-drop (omega arith) in
       let e : length w ≡ j = length-take-le j (drop from s) (omega arith) in
       rw (add-one, take-suc (drop from s) j d, getD-drop)
-      (ap (λ (i : ℕ). set (sets l place w) (place + i) a) (sym e) ∙ sets-more w l place a)
+      (ap (λ (i : ℕ). set (sets l place w) (place + i) a) (sym e) ∙ sym (sets-append w (a ∷ []) l place))
 
   -- A list stored behind a list that is filled up.
   sets-fill : (v l : List A) (n : ℕ) (d : A) → length l + length v ≤ n → sets (filled n d l) (length l) v ≡ filled n d (l ++ v)

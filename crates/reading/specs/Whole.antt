@@ -1,24 +1,16 @@
 -- A file that codes 1 to 5 let through, and those codes.
 use Prim.Native.Nat.{ℕ, _≤_}
-use mathlib.Core.Bool.{cond, not}
-use mathlib.Core.List.{List, [], _∷_, _++_}
+use mathlib.Core.Bool.{cond}
+use mathlib.Core.List.{List}
 use mathlib.Core.Path.{_≡_}
-use lib.Dec.{eqb, ltb}
+use lib.Dec.{eqb}
 use lib.ListN.{length}
-use Rattle.rules.specs.Rows.{Row, _if_, first, joinOf, filled}
-use Rattle.rules.specs.Network.{headRows}
-use Rattle.rules.specs.File.{headSize, marked, versionIn, segmentCount, boxCount, trainCount, fileLength, routeIn, fileCode, decode}
+use Rattle.rules.specs.Rows.{first, joinOf, filled}
+use Rattle.rules.specs.File.{segmentCount, boxCount, trainCount, fileLength, earlyRows, routeIn, fileCode, decode}
 use Rattle.rules.specs.Line.{emptyTable}
 use Rattle.reading.specs.declared.Decided.{Decided}
 
--- Codes 1 to 5.
-unfoldable pub earlyRows : List ℕ → List Row
-earlyRows bytes =
-    1 if ltb (length bytes) headSize
-    ∷ 2 if not (marked bytes)
-    ∷ headRows (versionIn bytes) (segmentCount bytes) (boxCount bytes) (trainCount bytes)
-    ++ (5 if not (eqb (length bytes) (fileLength bytes)) ∷ [])
-
+-- The first of codes 1 to 5 that applies, or 0.
 unfoldable pub earlyCode : List ℕ → ℕ
 earlyCode bytes = first (earlyRows bytes)
 

@@ -127,7 +127,7 @@ fn routes(bytes: &[u8]) -> [u8; 1024]
 }
 
 // The table record of a file that codes 1 to 5 let through.
-pub fn table(bytes: &[u8]) -> Table
+pub(crate) fn table(bytes: &[u8]) -> Table
     requires { ⌜ Whole (now bytes) ⌝ }
     ensures { λ r. ⌜ r ≡ decode (now (bytes .entry)) ⌝ }
 {

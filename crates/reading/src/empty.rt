@@ -11,7 +11,7 @@ ghost use mathlib.Core.Path.{_≡_};
 ghost use Rattle.rules.specs.Line.{emptyTable, emptyLine};
 
 // The table with nothing in it.
-pub fn table() -> Table
+pub(crate) fn table() -> Table
     ensures { λ r. ⌜ r ≡ emptyTable ⌝ }
 {
     Table {
@@ -36,7 +36,7 @@ pub fn table() -> Table
 }
 
 // The line with nothing in it.
-pub fn line() -> Line
+pub(crate) fn line() -> Line
     ensures { λ r. ⌜ r ≡ emptyLine ⌝ }
 {
     Line {

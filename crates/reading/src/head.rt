@@ -13,7 +13,7 @@ fn byte_at(bytes: &[u8], i: usize) -> u8
 }
 
 // Where the train records after the first `count` of them begin.
-pub fn trains_from(bytes: &[u8], count: u8) -> usize
+pub(crate) fn trains_from(bytes: &[u8], count: u8) -> usize
     ensures { λ r. ⌜ r ≡ trainsFrom (now (bytes .entry)) count ⌝ }
 {
     let n = byte_at(bytes, 5) as usize;
@@ -43,7 +43,7 @@ fn marked(bytes: &[u8]) -> bool
 }
 
 // The version, its high byte first.
-pub fn version(bytes: &[u8]) -> u16
+pub(crate) fn version(bytes: &[u8]) -> u16
     requires { ⌜ 8 ≤ length (now bytes) ⌝ }
     ensures { λ r. ⌜ r ≡ versionIn (now (bytes .entry)) ⌝ }
 {
@@ -51,7 +51,7 @@ pub fn version(bytes: &[u8]) -> u16
 }
 
 // The first of codes 1 to 5 that applies, or 0.
-pub fn early_code(bytes: &[u8]) -> u8
+pub(crate) fn early_code(bytes: &[u8]) -> u8
     ensures { λ r. ⌜ r ≡ earlyCode (now (bytes .entry)) ⌝ }
 {
     if bytes.len() < 8 {

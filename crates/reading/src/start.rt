@@ -149,7 +149,7 @@ fn boxes(t: Table) -> [SwitchBox; 96]
 }
 
 // The line of a table at its start.
-pub fn line(t: Table) -> Line
+pub(crate) fn line(t: Table) -> Line
     requires { ⌜ Counted t ⌝ }
     ensures { λ r. ⌜ r ≡ startLine t ⌝ }
 {

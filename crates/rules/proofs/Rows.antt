@@ -8,9 +8,11 @@ use native.Mathlib.Decide.{ℕ-discrete, decLt}
 use native.Mathlib.Nat.{zero-add, add-zero, suc-add, mul-zero, mul-suc}
 use native.Mathlib.Numerals.{add-one}
 use native.Mathlib.Omega.{arith}
+use borrow.Author.Tests.{lt-ltb}
 use lib.ListN.{length, getD, set, take, replicate, length-append, length-take, length-replicate, List·getD-append, List·getD-eq-default, length-map}
-use lib.Seq.{take-all, length-take-le, getD-take, getD-append-add, ext-getD}
+use lib.Seq.{sets, take-all, length-take-le, getD-take, getD-append-add, ext-getD}
 use Rattle.rules.specs.Rows.{anyOf, nth, listFrom, listOf, joinFrom, joinOf, filled}
+use Rattle.rules.specs.Track.{routeAt}
 use Rattle.rules.proofs.Tests.{or-left, or-right, or-false, or-false-left, or-false-right}
 
 -- A test over the first i records that finds nothing, one record at a time; and one that finds record i + 1.
@@ -263,6 +265,23 @@ module _ {ℓ} {A : Type ℓ} where
   unfolding nth
   filled-nth f d places n zero e h k = sym e
   filled-nth f d places n (suc i) e h k = rw (filled-list-at f d places n i k (omega arith), add-one)
+
+  -- Stores of two lists joined are those of the first and then those of the second.
+  pub sets-append : (v w l : List A) (at : ℕ) → sets l at (v ++ w) ≡ sets (sets l at v) (at + length v) w
+  sets-append [] w l at = let e : at + 0 ≡ at = omega arith in rw e
+  sets-append (a ∷ v) w l at =
+      let e : at + suc (length v) ≡ suc at + length v = omega arith in
+      rw e (sets-append v w (set l at a) (suc at))
+
+-- Place p + 1 of the route of train i + 1, and its first place.
+pub route-at : (routes : List ℕ) (i p : ℕ) → p < 64 → routeAt routes (i + 1) (p + 1) ≡ getD routes (64 * i + p) 0
+unfolding routeAt
+route-at routes i p h = rw (add-one i, add-one p, lt-ltb p 64)
+
+pub route-first : (routes : List ℕ) (i : ℕ) → routeAt routes (i + 1) 1 ≡ getD routes (64 * i) 0
+route-first routes i =
+    let e : 64 * i + 0 ≡ 64 * i = omega arith in
+    route-at routes i 0 (omega arith) ∙ ap (λ (n : ℕ). getD routes n 0) e
 
 -- The length of an array of records, from what a program knows of their values.
 pub length-mapped : {X Y : Type 0} (f : X → Y) (l : List X) (n : ℕ) → length (map f l) ≡ n → length l ≡ n

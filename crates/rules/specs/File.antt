@@ -8,7 +8,7 @@ use Rattle.rules.specs.declared.Segment.{Segment}
 use Rattle.rules.specs.declared.BoxPlan.{BoxPlan}
 use Rattle.rules.specs.declared.TrainPlan.{TrainPlan}
 use Rattle.rules.specs.declared.Table.{Table}
-use Rattle.rules.specs.Rows.{_if_, first, outside, listOf, joinOf, filled}
+use Rattle.rules.specs.Rows.{Row, _if_, first, outside, listOf, joinOf, filled}
 use Rattle.rules.specs.Track.{noSegment, noBoxPlan, noTrainPlan, segmentAt, planAt, trainPlanAt, routeAt}
 use Rattle.rules.specs.Network.{headRows}
 use Rattle.rules.specs.Placing.{conditionRows, tableCode}
@@ -111,17 +111,17 @@ decode bytes =
       routes = filled 1024 0 (joinOf (trainCount bytes) (λ i. filled 64 0 (routeIn bytes i)));
     }
 
--- The code of a file: 1 to 12, or 0.
-unfoldable pub fileCode : List ℕ → ℕ
-fileCode bytes =
-    let t = decode bytes in
-    first
-    (1 if ltb (length bytes) headSize
+-- What comes before a file's records can be looked at: codes 1 to 5.
+unfoldable pub earlyRows : List ℕ → List Row
+earlyRows bytes =
+    1 if ltb (length bytes) headSize
     ∷ 2 if not (marked bytes)
     ∷ headRows (versionIn bytes) (segmentCount bytes) (boxCount bytes) (trainCount bytes)
     ++ (5 if not (eqb (length bytes) (fileLength bytes)) ∷ [])
-    ++ conditionRows t
-    )
+
+-- The code of a file: 1 to 12, or 0.
+unfoldable pub fileCode : List ℕ → ℕ
+fileCode bytes = first (earlyRows bytes ++ conditionRows (decode bytes))
 
 -- The route of train i as a part of the file: the file's code, then 14 for a train 0 or above k; the part is empty with both.
 unfoldable pub routeCode : List ℕ → ℕ → ℕ

@@ -121,18 +121,22 @@ unfoldable pub startHolder : Table → ℕ → ℕ → ℕ → ℕ
 startHolder t b s zero = 0
 startHolder t b s (suc j) = cond (startsOn t b s (suc j)) (suc j) (startHolder t b s j)
 
--- The start of box b: sensor passive, position as in the table, no lock, the first segments reserved at the boxes ahead.
-unfoldable pub startBox : Table → ℕ → SwitchBox
-startBox t b =
+-- The start of box b on a line with the trains 1 .. j: sensor passive, position as in the table, no lock, the first segments
+-- reserved at the boxes ahead. The line has all trains of its table.
+unfoldable pub startBoxWith : Table → ℕ → ℕ → SwitchBox
+startBoxWith t j b =
     let p = planAt t b in
     record {
       sensor = false;
       position = p .position;
       lock = 0;
-      stem = startHolder t b (p .stem) (t .k);
-      left = startHolder t b (p .left) (t .k);
-      right = startHolder t b (p .right) (t .k);
+      stem = startHolder t b (p .stem) j;
+      left = startHolder t b (p .left) j;
+      right = startHolder t b (p .right) j;
     }
+
+unfoldable pub startBox : Table → ℕ → SwitchBox
+startBox t b = startBoxWith t (t .k) b
 
 unfoldable pub startLine : Table → Line
 startLine t =

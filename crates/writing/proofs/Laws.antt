@@ -6,7 +6,7 @@ use native.Mathlib.Numerals.{add-one}
 use native.Mathlib.Omega.{arith}
 use borrow.Author.Tests.{lt-ltb, le-ltb, ne-eqb}
 use lib.ListN.{length, getD, set, drop, length-append, List·getD-eq-default}
-use lib.Seq.{sets, sets-eq, length-sets}
+use lib.Seq.{sets-eq, length-sets}
 use Rattle.rules.specs.declared.Table.{Table}
 use Rattle.rules.specs.declared.TrainPlan.{TrainPlan}
 use Rattle.rules.specs.Rows.{first, listOf, joinOf}
@@ -15,15 +15,8 @@ use Rattle.rules.specs.Placing.{tableCode}
 use Rattle.rules.specs.File.{headBytes, segmentBytes, boxBytes, trainBytes, encode, writeCode, written}
 use Rattle.rules.proofs.Accepted.{accepted}
 use Rattle.rules.proofs.ReadBack.{segments-length, boxes-length, encoded-length}
-use Rattle.rules.proofs.Rows.{nth-at, list-none, list-more, list-length, join-none, join-more}
+use Rattle.rules.proofs.Rows.{nth-at, list-none, list-more, list-length, join-none, join-more, sets-append}
 use Rattle.writing.specs.Written.{Bounded, Written}
-
--- Stores of two lists joined are those of the first and then those of the second.
-sets-append : (v w d : List ℕ) (at : ℕ) → sets d at (v ++ w) ≡ sets (sets d at v) (at + length v) w
-sets-append [] w d at = let e : at + 0 ≡ at = omega arith in rw e
-sets-append (a ∷ v) w d at =
-    let e : at + suc (length v) ≡ suc at + length v = omega arith in
-    rw e (sets-append v w (set d at a) (suc at))
 
 -- Nothing stored; two lists stored one after the other; and the length, which no store changes.
 pub written-none : (d : List ℕ) (at : ℕ) → Written d at [] at d
@@ -138,11 +131,6 @@ written-file t w x y z = written-append (written-append (written-append w x) y) 
 -- A train beyond 16 has no route.
 pub no-train : (t : Table) (i : ℕ) → length (t .trains) ≤ i → getD (t .trains) i noTrainPlan .length ≡ 0
 no-train t i h = ap (λ (p : TrainPlan). p .length) (List·getD-eq-default (t .trains) noTrainPlan h)
-
--- Place p + 1 of the route of train i + 1.
-pub route-at : (routes : List ℕ) (i p from : ℕ) → p < 64 → from ≡ 64 * i + p → getD routes from 0 ≡ routeAt routes (i + 1) (p + 1)
-unfolding routeAt
-route-at routes i p from h e = rw (e, add-one i, add-one p, lt-ltb p 64)
 
 -- A table of code 0 has its records within their places.
 pub code-bounded : (t : Table) → tableCode t ≡ 0 → Bounded t

@@ -114,7 +114,7 @@ fn put_trains(t: Table, buffer: &mut [u8], at: usize) -> usize
 }
 
 // The file, at the front of the buffer.
-pub fn put_file(t: Table, buffer: &mut [u8]) -> usize
+pub(crate) fn put_file(t: Table, buffer: &mut [u8]) -> usize
     requires { ⌜ Bounded t ⌝ }
     requires { ⌜ length (encode t) ≤ length (now buffer) ⌝ }
     ensures { λ r. ⌜ Written (now (buffer .entry)) 0 (encode t) r (now (buffer .exit)) ⌝ }

@@ -3,15 +3,15 @@ use Prim.Native.Nat.{ℕ, _-_, _≤_}
 use mathlib.Core.Path.{_≡_, sym, _∙_, ap}
 use native.Mathlib.Omega.{arith}
 use Rattle.rules.specs.Rows.{filled, listOf}
-use Rattle.rules.specs.Line.{noBox}
-use Rattle.reading.specs.Start.{startBoxAfter, boxesAfter}
+use Rattle.rules.specs.Line.{noBox, startBoxWith}
+use Rattle.reading.specs.Start.{boxesAfter}
 use Rattle.reading.proofs.Fill.{fill-none, fill-more}
 use Rattle.reading.proofs.Begin.{free-box}
 use Rattle.reading.proofs.start.free_boxes.Statement.{statement}
 use Rattle.reading.proofs.start.free_boxes.Tie as tie
 
 abbrev Inv-loop : tie.InvT-loop
-Inv-loop t m all₀ i₀ all i = (i ≤ m) × (m ≤ 96) × (all ≡ filled 96 noBox (listOf i (startBoxAfter t 0)))
+Inv-loop t m all₀ i₀ all i = (i ≤ m) × (m ≤ 96) × (all ≡ filled 96 noBox (listOf i (startBoxWith t 0)))
 
 abbrev μ-loop : tie.MeasureT-loop
 μ-loop t m all₀ i₀ all i = m - i
@@ -32,7 +32,7 @@ unfolding boxesAfter
 returns c =
     let t = c .before .before .args .t1 in
     let e : c .before .loop .i ≡ t .m = omega arith in
-    c .before .loop .inv .2 ∙ ap (λ (n : ℕ). filled 96 noBox (listOf n (startBoxAfter t 0))) e
+    c .before .loop .inv .2 ∙ ap (λ (n : ℕ). filled 96 noBox (listOf n (startBoxWith t 0))) e
 
 pub free-boxes-spec : {M : Type 1} → statement M
 free-boxes-spec =

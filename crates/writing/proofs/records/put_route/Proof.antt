@@ -1,13 +1,14 @@
 -- `put_route` meets its contract: the part of the route from `at` up to j is stored, and `from` goes with j. The measure is
 -- what is left up to `end`.
 use Prim.Native.Nat.{_+_, _-_, _*_, _≤_}
-use mathlib.Core.Path.{_≡_, refl}
+use mathlib.Core.Path.{_≡_, refl, sym}
 use native.Mathlib.Omega.{arith}
 use lib.ListN.{length, length-set}
 use Rattle.rules.specs.Rows.{listOf}
 use Rattle.rules.specs.Track.{routeAt}
 use Rattle.writing.specs.Written.{Written}
-use Rattle.writing.proofs.Laws.{written-list-none, written-list, route-at}
+use Rattle.rules.proofs.Rows.{route-at}
+use Rattle.writing.proofs.Laws.{written-list-none, written-list}
 use Rattle.writing.proofs.records.put_route.Statement.{statement}
 use Rattle.writing.proofs.records.put_route.Tie as tie
 
@@ -30,7 +31,7 @@ loop-again c =
       omega arith,
       omega arith,
       simp length-set (omega arith),
-      written-list _ (head .inv .0) (route-at _ _ (head .j - at) _ (omega arith) (head .inv .2)) (head .inv .4),
+      written-list _ (head .inv .0) (rw (head .inv .2) (sym (route-at _ _ (head .j - at) (omega arith)))) (head .inv .4),
     )
 
 returns : tie.Need-returns Inv-loop μ-loop

@@ -26,3 +26,5 @@ pub mod Checked
 pub mod Computing
 -- The cases of 01.
 pub mod Cases
+-- The examples of demand 3.
+pub mod Examples

@@ -17,6 +17,10 @@ pub record Event : Type 0 where
   pub step : Step
   pub answer : ℕ
 
+infix 70 _answered_
+abbrev pub _answered_ : Step → ℕ → Event
+s answered c = record { step = s; answer = c }
+
 -- The line after a list of steps, each getting the line that the one before returned; and the steps with their answers.
 unfoldable pub lineAfter : Call → Line → List Step → Line
 lineAfter call l [] = l
@@ -26,7 +30,7 @@ unfoldable pub events : Call → Line → List Step → List Event
 events call l [] = []
 events call l (s ∷ rest) =
     let o = call l s in
-    record { step = s; answer = o .code } ∷ events call (o .line) rest
+    s answered o .code ∷ events call (o .line) rest
 
 -- The event is train i's step of this kind, accepted.
 unfoldable pub accepted : ℕ → ℕ → Event → Bool

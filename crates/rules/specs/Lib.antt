@@ -19,6 +19,10 @@ pub mod Record
 pub mod History
 pub mod Atomic
 pub mod Safety
+-- What holds between any two steps.
+pub mod Invariant
+-- What else holds after every list of steps.
+pub mod Consequences
 -- What the program prints.
 pub mod Printout
 -- The cases of 01, and one for each code and each condition.
@@ -26,3 +30,5 @@ pub mod Cases
 pub mod FileCases
 pub mod StepCases
 pub mod RecordCases
+-- Examples of what demand 3 says.
+pub mod Examples

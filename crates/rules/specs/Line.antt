@@ -193,11 +193,10 @@ pub record Around : Type 0 where
   pub farEnd : ℕ
   pub passed : ℕ
 
-unfoldable pub around : Line → ℕ → Around
-around l i =
-    let t = l .table in
-    let r = trainAt l i in
-    let segment : ℕ → ℕ = λ p. routeAt (l .routes) i p in
+-- What stands around train i, by its record r and its route in `routes`; and around train i of a line.
+unfoldable pub aroundTrain : Table → List ℕ → ℕ → Train → Around
+aroundTrain t routes i r =
+    let segment : ℕ → ℕ = λ p. routeAt routes i p in
     let d = r .direction in
     let front = segment (r .place) in
     let next = segment (r .place + 1) in
@@ -214,3 +213,6 @@ around l i =
       farEnd = farBox t d next;
       passed = farBox t d tail;
     }
+
+unfoldable pub around : Line → ℕ → Around
+around l i = aroundTrain (l .table) (l .routes) i (trainAt l i)

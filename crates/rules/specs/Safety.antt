@@ -4,6 +4,7 @@ use mathlib.Core.Path.{_≡_}
 use mathlib.Core.Bool.{true, false}
 use mathlib.Core.List.{List, _∷_, [], _++_}
 use Rattle.rules.specs.declared.Table.{Table}
+use Rattle.rules.specs.declared.Train.{Train}
 use Rattle.rules.specs.declared.Line.{Line}
 use Rattle.rules.specs.Track.{planAt, trainPlanAt, routeAt, farBox, isPoint, joins}
 use Rattle.rules.specs.File.{fileCode, decode}
@@ -18,7 +19,7 @@ pub record TrainOf (t : Table) (i : ℕ) : Type 0 where
   pub low : 1 ≤ i
   pub high : i ≤ t .k
 
--- The segment at place p of train i's route.
+-- The segment at place p of train i's route in the table.
 abbrev pub onRoute : Table → ℕ → ℕ → ℕ
 onRoute t i p = routeAt (t .routes) i p
 
@@ -27,15 +28,23 @@ pub record Covers (at : Place) (q : ℕ) : Type 0 where
   pub behind : at .place < q + at .covered
   pub ahead : q ≤ at .place
 
--- Train i, being there, crosses box b: it covers places q and q + 1 of its route, and b is the box between them.
-pub record Crosses (t : Table) (i : ℕ) (at : Place) (q b : ℕ) : Type 0 where
+-- Train i, of direction d and being there on its route in `routes`, crosses box b: it covers places q and q + 1 of that route,
+-- and b is the box between them.
+pub record Crosses (t : Table) (routes : List ℕ) (i d : ℕ) (at : Place) (q b : ℕ) : Type 0 where
   pub from : Covers at q
   pub to : Covers at (q + 1)
-  pub between : farBox t (trainPlanAt t i .direction) (onRoute t i q) ≡ b
+  pub between : farBox t d (routeAt routes i q) ≡ b
 
--- The place that a line's record has for train i.
+-- The same by the table's route and direction.
+abbrev pub CrossesBox : Table → ℕ → Place → ℕ → ℕ → Type 0
+CrossesBox t i at q b = Crosses t (t .routes) i (trainPlanAt t i .direction) at q b
+
+-- The place that a train's record has, and the one that a line has for train i.
+abbrev pub placeIn : Train → Place
+placeIn r = record { place = r .place; covered = r .covered }
+
 abbrev pub placeOf : Line → ℕ → Place
-placeOf l i = record { place = trainAt l i .place; covered = trainAt l i .covered }
+placeOf l i = placeIn (trainAt l i)
 
 -- A line has the table, the routes, and the trains' directions and route lengths of table t.
 pub record Fixed (t : Table) (l : Line) : Type 0 where
@@ -71,15 +80,15 @@ module _ (t : Table) (steps : List Step) where
     pub within : (i : ℕ) → TrainOf t i → whereIs i .place ≤ trainPlanAt t i .length
     -- At each point crossed the position joins the two segments covered there.
     pub joined
-        : (i : ℕ) → TrainOf t i → (q b : ℕ) → Crosses t i (whereIs i) q b → isPoint (planAt t b) ≡ true
+        : (i : ℕ) → TrainOf t i → (q b : ℕ) → CrossesBox t i (whereIs i) q b → isPoint (planAt t b) ≡ true
         → joins (planAt t b) (boxAt reached b .position) (onRoute t i q) (onRoute t i (q + 1)) ≡ true
     -- No further step changes the position of a box that a train crosses, before that step or after it.
     pub still
-        : (s : Step) (i : ℕ) → TrainOf t i → (q b : ℕ) → Crosses t i (whereIs i) q b
+        : (s : Step) (i : ℕ) → TrainOf t i → (q b : ℕ) → CrossesBox t i (whereIs i) q b
         → boxAt (step reached s .line) b .position ≡ boxAt reached b .position
     pub stillAfter
         : (s : Step) (i : ℕ) → TrainOf t i → (q b : ℕ)
-        → Crosses t i (placeAfter i (events step (startLine t) (steps ++ (s ∷ [])))) q b
+        → CrossesBox t i (placeAfter i (events step (startLine t) (steps ++ (s ∷ [])))) q b
         → boxAt (step reached s .line) b .position ≡ boxAt reached b .position
     -- The record check finds nothing: each train covers a segment, and a call that begins with the check answers the same.
     pub sound : recordFault reached ≡ false

@@ -226,13 +226,17 @@ boxAnswers l i Idle = refused 21
 boxAnswers l i (Sent q) = reply l i q
 boxAnswers l i (Answered q c) = refused 21
 
+-- The train after it has heard an answer: a yes is recorded, and the message is gone.
+unfoldable pub heard : Around → Train → Request → ℕ → Train
+heard v r q c =
+    let gone = withMessage r Idle in
+    cond (eqb c 0) (withHolding v gone q) gone
+
 -- Kind 4: the train hears an answer that is on its way, with the answer's code.
 unfoldable pub trainHears : Line → ℕ → Message → Effect
 trainHears l i Idle = refused 21
 trainHears l i (Sent q) = refused 21
-trainHears l i (Answered q c) =
-    let r = withMessage (trainAt l i) Idle in
-    train c (cond (eqb c 0) (withHolding (around l i) r q) r)
+trainHears l i (Answered q c) = train c (heard (around l i) (trainAt l i) q c)
 
 -- Kind 5.
 unfoldable pub enter : Line → ℕ → Effect

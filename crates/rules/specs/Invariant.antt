@@ -1,0 +1,128 @@
+-- What holds of a line between any two steps and carries demand 3. It speaks of the line as it stands, not of the steps that led
+-- to it, and of the routes in force.
+use Prim.Native.Nat.{ℕ, _+_, _<_}
+use mathlib.Core.Path.{_≡_}
+use mathlib.Core.Bool.{true, false, _||_}
+use mathlib.Core.List.{List}
+use lib.ListN.{length}
+use Rattle.rules.specs.declared.Table.{Table}
+use Rattle.rules.specs.declared.SwitchBox.{SwitchBox}
+use Rattle.rules.specs.declared.Request.{Request}
+use Rattle.rules.specs.declared.Message.{Message}
+use Rattle.rules.specs.declared.Message.the-variants.{Idle, Sent, Answered}
+use Rattle.rules.specs.declared.Train.{Train}
+use Rattle.rules.specs.declared.Line.{Line}
+use Rattle.rules.specs.Rows.{listOf}
+use Rattle.rules.specs.Track.{planAt, routeAt, farBox, nearBox, isPoint, joins}
+use Rattle.rules.specs.Line.{Around, aroundTrain, around, boxAt, trainAt, holderOf}
+use Rattle.rules.specs.Steps.{recorded, withMessage, heard}
+use Rattle.rules.specs.Record.{recordFault}
+use Rattle.rules.specs.Safety.{TrainOf, Covers, Crosses, placeIn, placeOf}
+
+-- A train once a yes on its way to it is taken as heard; it has no message.
+unfoldable pub settledBy : Around → Train → Message → Train
+settledBy v r Idle = r
+settledBy v r (Sent q) = withMessage r Idle
+settledBy v r (Answered q c) = heard v r q c
+
+unfoldable pub settledTrain : Table → List ℕ → ℕ → Train → Train
+settledTrain t routes i r = settledBy (aroundTrain t routes i r) r (r .message)
+
+-- The line with every train settled. Its boxes are as they were.
+unfoldable pub settled : Line → Line
+settled l =
+    record {
+      table = l .table;
+      boxes = l .boxes;
+      trains = listOf (length (l .trains)) (λ i. settledTrain (l .table) (l .routes) i (trainAt l i));
+      routes = l .routes;
+    }
+
+-- Train i by its record r, its route in `routes`.
+module _ (t : Table) (routes : List ℕ) (i : ℕ) (r : Train) where
+  -- The segment at place q of its route, and the box at the far end of it.
+  abbrev pub segmentOn : ℕ → ℕ
+  segmentOn q = routeAt routes i q
+
+  abbrev pub boxBeyond : ℕ → ℕ
+  boxBeyond q = farBox t (r .direction) (segmentOn q)
+
+  -- It crosses box b between places q and q + 1.
+  abbrev pub CrossesAt : ℕ → ℕ → Type 0
+  CrossesAt q b = Crosses t routes i (r .direction) (placeIn r) q b
+
+  -- Box b must have segment s reserved for it: a covered segment at the box ahead of it; at a crossed box also the segment after
+  -- it; and next at each end where its reservation is recorded.
+  pub data Needs : ℕ → ℕ → Type 0 where
+    ahead : {q : ℕ} → Covers (placeIn r) q → Needs (boxBeyond q) (segmentOn q)
+    crossed : {q b : ℕ} → CrossesAt q b → Needs b (segmentOn (q + 1))
+    nearRecorded : r .near ≡ true → Needs (nearBox t (r .direction) (segmentOn (r .place + 1))) (segmentOn (r .place + 1))
+    farRecorded : r .far ≡ true → Needs (boxBeyond (r .place + 1)) (segmentOn (r .place + 1))
+
+  -- Box b must be locked for it: a crossed point, and the box ahead where its lock is recorded.
+  pub data NeedsLock : ℕ → Type 0 where
+    crossedPoint : {q b : ℕ} → CrossesAt q b → isPoint (planAt t b) ≡ true → NeedsLock b
+    lockRecorded : r .lock ≡ true → NeedsLock (boxBeyond (r .place))
+
+  -- It has a use for the lock of box b, which lies in position y: the box is a point that it crosses, or has ahead with a next,
+  -- and the position joins its two segments there. The place before that box is covered and not its route's last: behind the
+  -- front it crosses the box, at the front it has it ahead.
+  pub record UsesLock (b y : ℕ) : Type 0 where
+    pub place : ℕ
+    pub covered : Covers (placeIn r) place
+    pub next : place < r .length
+    pub there : boxBeyond place ≡ b
+    pub point : isPoint (planAt t b) ≡ true
+    pub joined : joins (planAt t b) y (segmentOn place) (segmentOn (place + 1)) ≡ true
+
+  -- It and box b as it stands, x, fit together.
+  pub record Fits (b : ℕ) (x : SwitchBox) : Type 0 where
+    -- What it needs reserved here is reserved for it, and what it needs locked is locked for it.
+    pub reserved : (s : ℕ) → Needs b s → holderOf (planAt t b) x s ≡ i
+    pub locked : NeedsLock b → x .lock ≡ i
+    -- It has a use for a lock that is its own.
+    pub used : x .lock ≡ i → UsesLock b (x .position)
+    -- A box that it crosses is sensed.
+    pub sensed : (q : ℕ) → CrossesAt q b → x .sensor ≡ true
+
+-- Some train crosses box b.
+pub record Crossed (l : Line) (b : ℕ) : Type 0 where
+  pub train : ℕ
+  pub known : TrainOf (l .table) train
+  pub place : ℕ
+  pub crosses : CrossesAt (l .table) (l .routes) train (trainAt l train) place b
+
+-- Trains and boxes fit together. It looks at no message: `Invariant` asks it of the settled line.
+pub record Fitting (l : Line) : Type 0 where
+  -- No segment is covered by two trains.
+  pub apart
+      : (i j : ℕ) → TrainOf (l .table) i → TrainOf (l .table) j → (p q : ℕ) → Covers (placeOf l i) p → Covers (placeOf l j) q
+      → routeAt (l .routes) i p ≡ routeAt (l .routes) j q → i ≡ j
+  -- Each train fits together with each box.
+  pub fits : (i : ℕ) → TrainOf (l .table) i → (b : ℕ) → Fits (l .table) (l .routes) i (trainAt l i) b (boxAt l b)
+  -- A train has recorded something only where it has a next.
+  pub withNext
+      : (i : ℕ) → TrainOf (l .table) i → (trainAt l i .near || trainAt l i .far || trainAt l i .lock) ≡ true
+      → trainAt l i .place < trainAt l i .length
+  -- A box is sensed only where some train crosses it.
+  pub sensedCrossed : (b : ℕ) → boxAt l b .sensor ≡ true → Crossed l b
+
+-- The message is open and has this request.
+pub data Open (q : Request) : Message → Type 0 where
+  sent : Open q (Sent q)
+  answered : {c : ℕ} → Open q (Answered q c)
+
+-- What every step keeps. `unrecorded` and `fitting` are the safety conditions of 02, ticket 11 (code 40), whose form has `withNext`.
+-- A reservation need not be explained by any train.
+pub record Invariant (l : Line) : Type 0 where
+  -- The record has its 96 boxes and 16 trains, which in a program its type says.
+  pub boxes : length (l .boxes) ≡ 96
+  pub trains : length (l .trains) ≡ 16
+  -- The record check finds nothing.
+  pub sound : recordFault l ≡ false
+  -- No open message concerns what is recorded.
+  pub unrecorded
+      : (i : ℕ) → TrainOf (l .table) i → (q : Request) → Open q (trainAt l i .message)
+      → recorded (around l i) (trainAt l i) q ≡ false
+  -- With each yes on its way taken as heard, trains and boxes fit together.
+  pub fitting : Fitting (settled l)

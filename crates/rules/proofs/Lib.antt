@@ -20,8 +20,40 @@ pub mod WriteBack
 pub mod ReadBack
 -- Reading and writing, one after the other.
 pub mod RoundTrip
+-- What putting back one train and one box of a line changes.
+pub mod Frames
+-- What the record check looks for.
+pub mod Sound
+-- What a step does to a line, one case a way of ending.
+pub mod StepKinds
+-- What the rows of codes of a step say.
+pub mod StepRows
+-- Trains and boxes that fit together, and what a change of one train and one box must observe; then a granted request, Enter and
+-- Clear, on a line without messages.
+pub mod Change
+pub mod Requesting
+pub mod Entering
+pub mod Clearing
+-- The line with every yes on its way taken as heard.
+pub mod Settled
+-- The invariant holds on the start line of every accepted table.
+pub mod Start
+-- What each step is on the settled line.
+pub mod SettledSteps
+-- Each step is, on the settled line, the atomic steps that it adds to the order.
+pub mod Simulates
+-- A box stays sound at a grant, an Enter and a Clear.
+pub mod SoundBoxes
+-- Every step keeps the invariant.
+pub mod Keeps
+-- What a step does to places, positions, table and routes.
+pub mod Moves
+-- Demand 3.
+pub mod Demand3
 -- Calls that begin with the record check, where it finds nothing.
 pub mod Checked
+-- What else holds after every list of steps.
+pub mod Consequences
 -- Opens all definitions, for proofs that compute.
 pub mod Computing
 -- The cases of 01.

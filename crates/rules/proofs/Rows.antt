@@ -155,6 +155,15 @@ module _ {ℓ} {A : Type ℓ} where
       let e : 1 + i ≡ i + 1 = omega arith in
       rw e (h i l)
 
+  -- A list is the list of its records.
+  pub list-all : (l : List A) (d : A) → listOf (length l) (λ i. nth l i d) ≡ l
+  unfolding listOf
+  list-all l d =
+      from-same (λ i. nth l i d) (λ i. getD l i d) (length l) 1 0
+      (λ i h.
+      let one : 1 + i ≡ i + 1 = omega arith in
+      rw (one, nth-at, zero-add)) ∙ from-all l d
+
   -- The lists f i, f (i + 1) and so on, one after the other: the first n and the last m.
   join-split : (f : ℕ → List A) (n m i : ℕ) → joinFrom i (n + m) f ≡ joinFrom i n f ++ joinFrom (i + n) m f
   unfolding joinFrom
@@ -256,15 +265,36 @@ module _ {ℓ} {A : Type ℓ} where
         | no k ↦ filled-rest n d l i (omega arith) ∙ sym (List·getD-eq-default l d (omega arith))
       ]
 
-  -- Where f 1 .. f n are filled up, what stands at place i, from 0, and what is record s.
+  -- Where f 1 .. f n are filled up, what stands at place i, from 0; record s; and what is past them.
   pub filled-list-at : (f : ℕ → A) (d : A) (places n i : ℕ) → i < n → i < places → getD (filled places d (listOf n f)) i d ≡ f (i + 1)
   filled-list-at f d places n i h k =
       filled-same places d (listOf n f) i k ∙ list-at f n i d h
 
+  pub filled-record : (f : ℕ → A) (d : A) (places n s : ℕ) → n ≤ places → 1 ≤ s → s ≤ n → nth (filled places d (listOf n f)) s d ≡ f s
+  unfolding nth
+  filled-record f d places n zero room low high = absurd (omega arith)
+  filled-record f d places n (suc i) room low high = rw (filled-list-at f d places n i high (omega arith), add-one)
+
   pub filled-nth : (f : ℕ → A) (d : A) (places n s : ℕ) → f 0 ≡ d → n ≤ places → s ≤ n → nth (filled places d (listOf n f)) s d ≡ f s
   unfolding nth
   filled-nth f d places n zero e h k = sym e
-  filled-nth f d places n (suc i) e h k = rw (filled-list-at f d places n i k (omega arith), add-one)
+  filled-nth f d places n (suc i) e h k = filled-record f d places n (suc i) h (omega arith) k
+
+  pub filled-past : (f : ℕ → A) (d : A) (places n s : ℕ) → n < s → nth (filled places d (listOf n f)) s d ≡ d
+  unfolding nth
+  filled-past f d places n zero h = refl
+  filled-past f d places n (suc i) h = filled-rest places d (listOf n f) i (omega (arith, list-length f n))
+
+  -- What holds of f 1 .. f n and of what they are filled up with holds of every record.
+  pub filled-each : (f : ℕ → A) (d : A) (places n : ℕ) (P : A → Type 0) → n ≤ places → ((s : ℕ) → 1 ≤ s → s ≤ n → P (f s)) → P d
+      → (s : ℕ) → P (nth (filled places d (listOf n f)) s d)
+  unfolding nth
+  filled-each f d places n P room these rest zero = rest
+  filled-each f d places n P room these rest (suc i) =
+      elim (decLt i n) [
+        | yes h ↦ rw (filled-record f d places n (suc i) room (omega arith) h) (these (suc i) (omega arith) h)
+        | no h ↦ rw (filled-past f d places n (suc i) (omega arith)) rest
+      ]
 
   -- Stores of two lists joined are those of the first and then those of the second.
   pub sets-append : (v w l : List A) (at : ℕ) → sets l at (v ++ w) ≡ sets (sets l at v) (at + length v) w

@@ -92,6 +92,10 @@ module _ {ℓ} {A : Type ℓ} where
   cond-same true x = refl
   cond-same false x = refl
 
+  pub cond-each : (P : A → Type 0) (b : Bool) (x y : A) → (b ≡ true → P x) → (b ≡ false → P y) → P (cond b x y)
+  cond-each P true x y h k = h refl
+  cond-each P false x y h k = k refl
+
   pub cond-second : (b : Bool) (x y z : A) → b ≡ false → z ≡ y → z ≡ cond b x y
   cond-second false x y z e f = f
   cond-second true x y z e f = absurd (false≢true (sym e))
@@ -105,6 +109,11 @@ pub first-skip : (r : Row) (rows : List Row) (c : ℕ) → r .applies ≡ false 
 unfolding first
 first-skip r rows c e f = cond-second (r .applies) (r .code) (first rows) c e f
 
+-- A code that no row has is not the code of the list.
+pub first-other : (n c : ℕ) (b : Bool) (rows : List Row) → c ≢ n → first rows ≢ n → first (c if b ∷ rows) ≢ n
+unfolding first
+first-other n c b rows this rest = cond-each (λ c. c ≢ n) b c (first rows) (λ _. this) (λ _. rest)
+
 -- A row that applies counts whatever rows come after.
 kept : (x : Bool) (c : ℕ) {y z : ℕ} → (cond x c y ≡ 0 → ⊥) → ((y ≡ 0 → ⊥) → y ≡ z) → cond x c y ≡ cond x c z
 kept true c h f = refl
@@ -114,6 +123,16 @@ pub first-before : (a b : List Row) → (first a ≡ 0 → ⊥) → first a ≡ 
 unfolding first
 first-before [] b h = absurd (h refl)
 first-before (r ∷ a) b h = kept (r .applies) (r .code) h (λ z. first-before a b z)
+
+-- Of two lists of rows none applies where none applies in either.
+both : (x : Bool) (c : ℕ) {y z : ℕ} → cond x c y ≡ 0 → (y ≡ 0 → z ≡ 0) → cond x c z ≡ 0
+both true c h f = h
+both false c h f = f h
+
+pub first-both : (a b : List Row) → first a ≡ 0 → first b ≡ 0 → first (a ++ b) ≡ 0
+unfolding first
+first-both [] b e f = f
+first-both (r ∷ a) b e f = both (r .applies) (r .code) e (λ z. first-both a b z f)
 
 pub ruleset tests = (is-true, is-false, or-left, or-right, or-false, or-last, and-true, and-left, and-right, and-last, not-of-true, not-of-false, not-same, cond-first, cond-second, first-hit, first-skip, lt-ltb, le-ltb, le-leb, lt-leb, eq-eqb, ne-eqb, answered)
 
@@ -132,6 +151,11 @@ and-true-iff false b = (λ e. absurd (false≢true e), λ e. e .0)
 pub and-false-iff : (a b : Bool) → ((a && b) ≡ false) ↔ (a ≡ true → b ≡ false)
 and-false-iff true b = (λ e _. e, λ e. e refl)
 and-false-iff false b = (λ _ e. absurd (false≢true e), λ _. refl)
+
+-- A test that must be passed where another is.
+pub implies-iff : (a b : Bool) → ((not a || b) ≡ true) ↔ (a ≡ true → b ≡ true)
+implies-iff true b = (λ e _. e, λ h. h refl)
+implies-iff false b = (λ _ e. absurd (false≢true e), λ _. refl)
 
 -- A test turned round, and tests of two numbers.
 pub not-false-iff : (a : Bool) → (not a ≡ false) ↔ (a ≡ true)

@@ -1,0 +1,128 @@
+-- What else holds after every list of steps.
+use Prim.Native.Nat.{ℕ}
+use mathlib.Core.Path.{_≡_, refl, sym, _∙_}
+use mathlib.Core.Logic.{_≢_}
+use mathlib.Core.Bool.{Bool, true, false}
+use mathlib.Core.List.{[], _∷_}
+use native.Mathlib.Omega.{arith}
+use Rattle.rules.specs.declared.BoxPlan.{BoxPlan}
+use Rattle.rules.specs.declared.SwitchBox.{SwitchBox}
+use Rattle.rules.specs.declared.Request.{Request}
+use Rattle.rules.specs.declared.Request.the-variants.{Reserve, Lock}
+use Rattle.rules.specs.declared.Message.the-variants.{Idle}
+use Rattle.rules.specs.declared.Line.{Line}
+use Rattle.rules.specs.declared.Outcome.{Outcome}
+use Rattle.rules.specs.Rows.{_if_, first}
+use Rattle.rules.specs.File.{decode}
+use Rattle.rules.specs.Line.{startLine, Around, aroundTrain, around, boxAt, trainAt, requestBox, messageBox}
+use Rattle.rules.specs.Steps.{Step, another, boxRows, step}
+use Rattle.rules.specs.Safety.{TrainOf, reached}
+use Rattle.rules.specs.Invariant.{CrossesAt, crossedPoint, settled, sent, Invariant}
+use Rattle.rules.specs.Consequences.{AlsoHolds}
+use Rattle.rules.proofs.Tests.{facts}
+use Rattle.rules.proofs.Routes.{far-once}
+use Rattle.rules.proofs.Files.{file-iff}
+use Rattle.rules.proofs.StepKinds.{request-kind, Answers, Does, refuses, sends, denies, grants, hears, enters, clears, does}
+use Rattle.rules.proofs.StepRows.{address-iff, lock-address-iff}
+use Rattle.rules.proofs.Change.{Steady}
+use Rattle.rules.proofs.Settled.{table-settled, around-settled, box-settled}
+use Rattle.rules.proofs.SettledSteps.{addressed-open, enter-idle}
+use Rattle.rules.proofs.Keeps.{steady}
+use Rattle.rules.proofs.Moves.{other-trains, other-boxes}
+use Rattle.rules.proofs.Checked.{checked-line, checked-events}
+use Rattle.rules.proofs.Demand3.{invariant-after}
+
+-- Kind 3 gives 23 only as a box's answer.
+answers-23 : {l : Line} {s : Step} {o : Outcome} → Does l s o → s .kind ≡ 3 → o .code ≡ 23 → (q : Request) × Answers l s q 23
+answers-23 (refuses n other) kind code = absurd (other code)
+answers-23 (sends w) kind code = absurd (omega arith)
+answers-23 (denies {q} w n) kind code = (q, rw code at w)
+answers-23 (grants w) kind code = absurd (omega arith)
+answers-23 (hears w) kind code = absurd (omega (arith, w .kind))
+answers-23 (enters w) kind code = absurd (omega arith)
+answers-23 (clears w) kind code = absurd (omega arith)
+
+-- A box that answers 23 was asked for its lock, and its sensor is active.
+data Blocked (x : SwitchBox) : Request → Type 0 where
+  blocked : {b : ℕ} → x .sensor ≡ true → Blocked x (Lock b)
+
+only-22 : (c : Bool) → first (22 if c ∷ []) ≢ 23
+unfolding first
+only-22 true e = omega arith
+only-22 false e = omega arith
+
+only-23 : (c d e : Bool) → first (23 if c ∷ 24 if d ∷ 25 if e ∷ []) ≡ 23 → c ≡ true
+unfolding first
+only-23 true d e f = refl
+only-23 false true e f = absurd (omega arith)
+only-23 false false true f = absurd (omega arith)
+only-23 false false false f = absurd (omega arith)
+
+row-23 : (v : Around) (p : BoxPlan) (x : SwitchBox) (q : Request) → first (boxRows v p x q) ≡ 23 → Blocked x q
+unfolding boxRows
+row-23 v p x (Reserve b) e = absurd (only-22 _ e)
+row-23 v p x (Lock b) e = blocked (only-23 _ _ _ e)
+
+-- Where trains and boxes fit together:
+module _ {a : Line} (h : Steady a) {i : ℕ} (k : TrainOf (a .table) i) where
+  -- A train does not cross the box ahead of it.
+  ahead-uncrossed : {q b : ℕ} → CrossesAt (a .table) (a .routes) i (trainAt a i) q b → b ≢ around a i .ahead
+  unfolding around aroundTrain
+  ahead-uncrossed {q} c e =
+      let place = h .placed i k in
+      let once = far-once (h .accepted .noLoop) (place .route) in
+      let same = once q (trainAt a i .place) (omega arith) (omega arith) (omega arith) (omega arith) (c .between ∙ e) in
+      omega arith
+
+  -- A point ahead of it whose sensor is active is locked for another.
+  sensed-locked : {b : ℕ} → boxAt a b .sensor ≡ true → b ≡ around a i .ahead → around a i .point ≡ true
+      → another i (boxAt a b .lock) ≡ true
+  unfolding around aroundTrain another
+  sensed-locked {b} active there point =
+      let c = h .fitting .sensedCrossed b active in
+      let lock = h .fitting .fits (c .train) (c .known) b .locked (crossedPoint (c .crosses) (rw there point)) in
+      rw lock (simp facts (omega (arith, c .known .low), λ e. ahead-uncrossed (rw e at (c .crosses)) there))
+
+-- A box says 23 only where another train holds its lock.
+lock-held : {l : Line} → Invariant l → (s : Step) → s .kind ≡ 3 → step l s .code ≡ 23
+    → another (s .train) (boxAt l (messageBox (trainAt l (s .train) .message)) .lock) ≡ true
+unfolding messageBox requestBox
+lock-held {l} h s kind code =
+    let (q, w) = answers-23 (does l s) kind code in
+    rw (w .sent) (go q w (row-23 _ _ _ q (w .code)))
+  where
+    go : (q : Request) → Answers l s q 23 → Blocked (boxAt l (requestBox q)) q
+        → another (s .train) (boxAt l (requestBox q) .lock) ≡ true
+    go q w (blocked active) =
+        let (next, at) = address-iff _ _ _ .0 (addressed-open h (s .train) (w .train) q (rw (w .sent) sent)) in
+        let (there, point) = lock-address-iff _ _ .0 at in
+        let known : TrainOf (settled l .table) (s .train) = rw table-settled (w .train) in
+        rw box-settled at
+        (sensed-locked (steady h) known {b = requestBox q} (rw box-settled active) (rw around-settled there) (rw around-settled point))
+
+-- A train enters only where it has no message.
+silent : {l : Line} → Invariant l → (s : Step) (o : Outcome) → Does l s o → s .kind ≡ 5 → o .code ≡ 0
+    → trainAt l (s .train) .message ≡ Idle
+silent h s o (refuses n other) kind code = absurd (n code)
+silent h s o (sends {q} w) kind code = absurd (request-kind q 5 (omega arith) (omega arith) (sym (w .kind) ∙ kind))
+silent h s o (denies w n) kind code = absurd (omega arith)
+silent h s o (grants w) kind code = absurd (omega arith)
+silent h s o (hears w) kind code = absurd (omega arith)
+silent h s o (enters w) kind code = enter-idle h w
+silent h s o (clears w) kind code = absurd (omega arith)
+
+pub consequences : AlsoHolds
+consequences bytes e steps =
+    let t = decode bytes in
+    let after = invariant-after (file-iff bytes .0 e .table) in
+    let h = after steps in
+    record {
+      invariant = h;
+      sound = h .sound;
+      checkedLine = checked-line (startLine t) (λ z. after z .sound) steps;
+      checkedEvents = checked-events (startLine t) (λ z. after z .sound) steps;
+      occupied = lock-held h;
+      silent = λ s. silent h s _ (does (reached t steps) s);
+      otherTrains = λ s. other-trains (does (reached t steps) s);
+      otherBoxes = λ s. other-boxes (does (reached t steps) s);
+    }

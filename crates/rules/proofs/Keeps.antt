@@ -1,0 +1,258 @@
+-- Every step keeps the invariant.
+use Prim.Native.Nat.{ℕ, _-_}
+use mathlib.Core.Path.{_≡_, refl, sym, _∙_, ap}
+use mathlib.Core.Logic.{_≢_}
+use mathlib.Core.Bool.{false}
+use mathlib.Core.List.{List}
+use native.Mathlib.Omega.{arith}
+use lib.ListN.{length}
+use Rattle.rules.specs.declared.Table.{Table}
+use Rattle.rules.specs.declared.SwitchBox.{SwitchBox}
+use Rattle.rules.specs.declared.Request.{Request}
+use Rattle.rules.specs.declared.Request.the-variants.{Reserve, Lock}
+use Rattle.rules.specs.declared.Message.{Message}
+use Rattle.rules.specs.declared.Message.the-variants.{Idle, Sent, Answered}
+use Rattle.rules.specs.declared.Train.{Train}
+use Rattle.rules.specs.declared.Line.{Line}
+use Rattle.rules.specs.declared.Outcome.{Outcome}
+use Rattle.rules.specs.Rows.{_if_, first}
+use Rattle.rules.specs.Track.{planAt}
+use Rattle.rules.specs.Line.{Around, aroundTrain, around, trainAt, putTrain, putBox}
+use Rattle.rules.specs.Steps.{Step, withMessage, addressed, atEnd, recorded, addressRows, entered, cleared}
+use Rattle.rules.specs.Record.{answerCode}
+use Rattle.rules.specs.Safety.{TrainOf}
+use Rattle.rules.specs.Invariant.{settled, Fitting, Open, sent, answered, Invariant}
+use Rattle.rules.proofs.Rows.{list-length}
+use Rattle.rules.proofs.Accepted.{BoxOf}
+use Rattle.rules.proofs.Frames.{put, set-length, each-train, each-box, train-alone}
+use Rattle.rules.proofs.Sound.{Placed, BoxSound, MessageSound, silent, asking, answering, sound-iff, open-address}
+use Rattle.rules.proofs.SoundBoxes.{answer-code, granted-sound, sensed-sound, released-sound}
+use Rattle.rules.proofs.StepKinds.{afterMessage, afterGrant, afterHearing, afterEnter, afterClear, Sends, Answers, Hears, Enters, Clears, Does, refuses, sends, denies, grants, hears, enters, clears}
+use Rattle.rules.proofs.StepRows.{not-open, request-iff, enter-iff, clear-iff}
+use Rattle.rules.proofs.Settled.{line-sound, sized, Alike, message-alike, heard-alike, heard-message, table-settled, alike-settled}
+use Rattle.rules.proofs.SettledSteps.{enter-idle, send-settled, deny-settled, hear-settled, grant-settled, grant-answers, clear-settled, clear-free, grant-asks, enter-settled, enter-free}
+use Rattle.rules.proofs.Change.{Steady, ahead-box, passed-box}
+use Rattle.rules.proofs.Requesting.{request-box, request-fits}
+use Rattle.rules.proofs.Entering.{enter-fits}
+use Rattle.rules.proofs.Clearing.{clear-fits}
+
+-- Two records of a train that stand alike have the same place on the route.
+placed-alike : (t : Table) (routes : List ℕ) (i : ℕ) {r x : Train} → Alike r x → Placed t routes i x → Placed t routes i r
+placed-alike t routes i e h =
+    record {
+      route = rw (e .direction, e .length) (h .route);
+      some = rw (e .covered) (h .some);
+      most = rw (e .covered) (h .most);
+      tail = rw (e .covered, e .place) (h .tail);
+      front = rw (e .place, e .length) (h .front);
+    }
+
+-- On the settled line trains and boxes fit together.
+pub steady : {l : Line} → Invariant l → Steady (settled l)
+unfolding settled
+steady {l} h =
+    record {
+      accepted = line-sound h .table;
+      sized = record { trains = rw list-length (sized h .trains); boxes = sized h .boxes };
+      placed = λ i k. placed-alike _ _ i (alike-settled l i) (line-sound h .trains i k);
+      fitting = h .fitting;
+    }
+
+-- Train i's own part of the invariant, by its record r.
+record Own (t : Table) (routes : List ℕ) (i : ℕ) (r : Train) : Type 0 where
+  placed : Placed t routes i r
+  message : MessageSound (aroundTrain t routes i r) r (r .message)
+  unrecorded : (q : Request) → Open q (r .message) → recorded (aroundTrain t routes i r) r q ≡ false
+
+-- A train and a box put back keep the invariant where each is sound and they fit.
+module _ {l : Line} (h : Invariant l) {i : ℕ} (k : TrainOf (l .table) i) {r : Train} (own : Own (l .table) (l .routes) i r) where
+  put-keeps : {b : ℕ} → BoxOf (l .table) b → {x : SwitchBox} → BoxSound (l .table .k) (planAt (l .table) b) x
+      → Fitting (settled (put l i r b x)) → Invariant (put l i r b x)
+  unfolding putTrain putBox around
+  put-keeps {b} kb {x} box fits =
+      let good = line-sound h in
+      let owns =
+      each-train l i r b x (Own (l .table) (l .routes)) (sized h) k own
+      (λ j kj n. record { placed = good .trains j kj; message = good .messages j kj; unrecorded = h .unrecorded j kj }) in
+      let sounds =
+      each-box l i r b x (λ c y. BoxOf (l .table) c → BoxSound (l .table .k) (planAt (l .table) c) y) (sized h) kb (λ _. box)
+      (λ c n. good .boxes c) in
+      record {
+        boxes = set-length (l .boxes) b x ∙ h .boxes;
+        trains = set-length (l .trains) i r ∙ h .trains;
+        sound = sound-iff (put l i r b x) .1 (record {
+          table = good .table;
+          trains = λ j kj. owns j kj .placed;
+          messages = λ j kj. owns j kj .message;
+          boxes = sounds;
+        });
+        unrecorded = λ j kj. owns j kj .unrecorded;
+        fitting = fits;
+      }
+
+  train-keeps : Fitting (settled (putTrain l i r)) → Invariant (putTrain l i r)
+  train-keeps fits =
+      let limits = line-sound h .table .limits in
+      let box : BoxOf (l .table) 1 = omega arith in
+      rw (train-alone l i r 1) at (put-keeps box (line-sound h .boxes 1 box) (rw (train-alone l i r 1) fits))
+
+-- What a train asks for, and whether it has recorded that, does not hang on how much it covers, nor on its message.
+module _ (t : Table) (routes : List ℕ) (i : ℕ) (r : Train) (covered : ℕ) (message : Message) where
+  abbrev showing : Train
+  showing =
+      record {
+        direction = r .direction;
+        length = r .length;
+        place = r .place;
+        covered = covered;
+        near = r .near;
+        far = r .far;
+        lock = r .lock;
+        message = message;
+      }
+
+  address-same : (q : Request) → addressRows (aroundTrain t routes i showing) showing q ≡ addressRows (aroundTrain t routes i r) r q
+  unfolding addressRows addressed atEnd aroundTrain
+  address-same (Reserve b) = refl
+  address-same (Lock b) = refl
+
+  recorded-same : (q : Request) → recorded (aroundTrain t routes i showing) showing q ≡ recorded (aroundTrain t routes i r) r q
+  unfolding recorded aroundTrain
+  recorded-same (Reserve b) = refl
+  recorded-same (Lock b) = refl
+
+-- A train's own part by its message: nothing is asked of one without.
+own-idle : (t : Table) (routes : List ℕ) (i : ℕ) {r : Train} → Placed t routes i r → r .message ≡ Idle → Own t routes i r
+own-idle t routes i {r} h e =
+    record {
+      placed = h;
+      message = rw e silent;
+      unrecorded = λ q w. absurd (not-open e w);
+    }
+
+-- Where the train asks for what it asked for before, in a message that is sound.
+own-showing
+    : (t : Table) (routes : List ℕ) (i : ℕ) (r : Train) (covered : ℕ) (g : Message)
+    → Placed t routes i (showing t routes i r covered g) → MessageSound (aroundTrain t routes i r) r g
+    → ((q : Request) → Open q g → recorded (aroundTrain t routes i r) r q ≡ false)
+    → Own t routes i (showing t routes i r covered g)
+own-showing t routes i r covered g h m n =
+    record {
+      placed = h;
+      message = again g m;
+      unrecorded = λ q w. recorded-same t routes i r covered g q ∙ n q w;
+    }
+  where
+    address : (q : Request) → first (addressRows (aroundTrain t routes i r) r q) ≡ 0
+        → first (addressRows (aroundTrain t routes i (showing t routes i r covered g)) (showing t routes i r covered g) q) ≡ 0
+    address q e = ap first (address-same t routes i r covered g q) ∙ e
+
+    again : (m : Message) → MessageSound (aroundTrain t routes i r) r m
+        → MessageSound (aroundTrain t routes i (showing t routes i r covered g)) (showing t routes i r covered g) m
+    again Idle silent = silent
+    again (Sent q) (asking e) = asking (address q e)
+    again (Answered q c) (answering e f) = answering (address q e) f
+
+module _ {l : Line} (h : Invariant l) (s : Step) where
+  abbrev i : ℕ
+  i = s .train
+
+  abbrev r : Train
+  r = trainAt l i
+
+  abbrev v : Around
+  v = around l i
+
+  -- A train that only asks, or has its answer, asks for what it may ask for.
+  own-message : TrainOf (l .table) i → (g : Message) → MessageSound v r g → ((q : Request) → Open q g → recorded v r q ≡ false)
+      → Own (l .table) (l .routes) i (withMessage r g)
+  unfolding withMessage around
+  own-message k g m n =
+      own-showing (l .table) (l .routes) i r (r .covered) g
+      (placed-alike _ _ i (message-alike r g) (line-sound h .trains i k))
+      m n
+
+  sends-keeps : {q : Request} → Sends l s q → Invariant (afterMessage l i (Sent q))
+  sends-keeps {q} w =
+      let (closed, (address, new)) = request-iff v r q .0 (w .free) in
+      train-keeps h (w .train) (own-message (w .train) (Sent q) (asking address) (asked new))
+      (rw (send-settled w) (h .fitting))
+    where
+      asked : recorded v r q ≡ false → (z : Request) → Open z (Sent q) → recorded v r z ≡ false
+      asked e z sent = e
+
+  -- The box asked may give this answer.
+  own-answered : {q : Request} {c : ℕ} → Answers l s q c → Own (l .table) (l .routes) i (withMessage r (Answered q c))
+  unfolding around
+  own-answered {q} {c} w =
+      let open-sent : Open q (r .message) = rw (w .sent) sent in
+      own-message (w .train) (Answered q c)
+      (answering (open-address (line-sound h .messages i (w .train)) open-sent) (ap (answerCode q) (sym (w .code)) ∙ answer-code v _ _ q))
+      (asked (h .unrecorded i (w .train) q open-sent))
+    where
+      asked : recorded v r q ≡ false → (z : Request) → Open z (Answered q c) → recorded v r z ≡ false
+      asked e z answered = e
+
+  denies-keeps : {q : Request} {c : ℕ} → Answers l s q c → c ≢ 0 → Invariant (afterMessage l i (Answered q c))
+  denies-keeps {q} {c} w n =
+      train-keeps h (w .train) (own-answered w)
+      (rw (deny-settled w n) (h .fitting))
+
+  grants-keeps : {q : Request} → Answers l s q 0 → Invariant (afterGrant l i q)
+  unfolding around
+  grants-keeps {q} w =
+      let address = open-address {q = q} (line-sound h .messages i (w .train)) (rw (w .sent) sent) in
+      let (_, (may, _)) = request-iff _ _ q .0 (grant-asks h w) in
+      let box = request-box (line-sound h .table) (line-sound h .trains i (w .train)) q address in
+      put-keeps h (w .train) (own-answered w) box (granted-sound _ _ i r q (line-sound h .boxes _ box) (w .train .high) address)
+      (rw (grant-settled w) (request-fits (steady h) (rw table-settled (w .train)) q may (grant-answers w)))
+
+  hears-keeps : {q : Request} {c : ℕ} → Hears l s q c → Invariant (afterHearing l i q c)
+  unfolding around
+  hears-keeps {q} {c} w =
+      train-keeps h (w .train) (own-idle _ _ i (placed-alike _ _ i (heard-alike v r q c) (line-sound h .trains i (w .train))) (heard-message v r q c))
+      (rw (hear-settled w) (h .fitting))
+
+  enters-keeps : Enters l s → Invariant (afterEnter l i)
+  unfolding around aroundTrain entered
+  enters-keeps w =
+      let box = ahead-box (line-sound h .table) (line-sound h .trains i (w .train)) in
+      put-keeps h (w .train) (own-idle _ _ i entering (enter-idle h w)) box (sensed-sound (line-sound h .boxes _ box))
+      (rw (enter-settled h w) (enter-fits (steady h) (rw table-settled (w .train)) (enter-free h w)))
+    where
+      entering : Placed (l .table) (l .routes) i (entered r)
+      entering =
+          let place = line-sound h .trains i (w .train) in
+          let (single, (next, _)) = enter-iff v r .0 (w .free) in
+          record { route = place .route; some = omega arith; most = omega arith; tail = omega (arith, place .tail); front = omega arith }
+
+  clears-keeps : Clears l s → Invariant (afterClear l i)
+  unfolding around aroundTrain cleared
+  clears-keeps w =
+      let box = passed-box (line-sound h .table) (line-sound h .trains i (w .train)) in
+      put-keeps h (w .train) clearing box (released-sound (line-sound h .boxes _ box) _ _)
+      (rw (clear-settled w) (clear-fits (steady h) (rw table-settled (w .train)) (clear-free w)))
+    where
+      clearing : Own (l .table) (l .routes) i (cleared r)
+      clearing =
+          let place = line-sound h .trains i (w .train) in
+          let two = clear-iff r .0 (w .free) in
+          own-showing (l .table) (l .routes) i r (r .covered - 1) (r .message)
+          (record {
+            route = place .route;
+            some = omega arith;
+            most = omega (arith, place .most);
+            tail = omega (arith, place .tail);
+            front = place .front;
+          })
+          (line-sound h .messages i (w .train))
+          (h .unrecorded i (w .train))
+
+pub keeps : (l : Line) → Invariant l → (s : Step) (o : Outcome) → Does l s o → Invariant (o .line)
+keeps l h s o (refuses n other) = h
+keeps l h s o (sends w) = sends-keeps h s w
+keeps l h s o (denies w n) = denies-keeps h s w n
+keeps l h s o (grants w) = grants-keeps h s w
+keeps l h s o (hears w) = hears-keeps h s w
+keeps l h s o (enters w) = enters-keeps h s w
+keeps l h s o (clears w) = clears-keeps h s w

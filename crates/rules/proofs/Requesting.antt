@@ -1,0 +1,226 @@
+-- A granted request leaves trains and boxes fitting together.
+use Prim.Native.Nat.{ℕ, _+_, _-_, _<_}
+use mathlib.Core.Path.{_≡_, refl, sym, _∙_}
+use mathlib.Core.Logic.{_⊎_, inl, inr, ⊎-elim, Iff·rfl, _≢_}
+use mathlib.Core.Bool.{true, false}
+use mathlib.Core.List.{List}
+use native.Mathlib.Decide.{ℕ-discrete}
+use native.Mathlib.Omega.{arith}
+use Rattle.rules.specs.declared.Request.{Request}
+use Rattle.rules.specs.declared.Request.the-variants.{Reserve, Lock}
+use Rattle.rules.specs.declared.SwitchBox.{SwitchBox}
+use Rattle.rules.specs.declared.Table.{Table}
+use Rattle.rules.specs.declared.Train.{Train}
+use Rattle.rules.specs.declared.Line.{Line}
+use Rattle.rules.specs.Rows.{first}
+use Rattle.rules.specs.Track.{planAt, routeAt, isPoint}
+use Rattle.rules.specs.Network.{lists}
+use Rattle.rules.specs.Line.{requestBox, aroundTrain, around, boxAt, trainAt, holderOf, setHolder}
+use Rattle.rules.specs.Steps.{addressed, addressRows, boxRows, another, positionFor, withHolding, granted, sensed}
+use Rattle.rules.specs.Safety.{TrainOf}
+use Rattle.rules.specs.Invariant.{boxBeyond, Needs, ahead, crossed, nearRecorded, farRecorded, NeedsLock, crossedPoint, lockRecorded, UsesLock, Fitting}
+use Rattle.rules.proofs.Accepted.{Accepted, BoxOf}
+use Rattle.rules.proofs.Boxes.{far-box, far-listed, position-joins}
+use Rattle.rules.proofs.Routes.{between}
+use Rattle.rules.proofs.Tests.{first-zero-iff, or-true-iff, eqb-true-iff}
+use Rattle.rules.proofs.Frames.{put, holder-set, holder-other}
+use Rattle.rules.proofs.Sound.{Placed}
+use Rattle.rules.proofs.StepKinds.{afterRequest}
+use Rattle.rules.proofs.StepRows.{another-false-iff, address-iff, lock-address-iff}
+use Rattle.rules.proofs.Change.{ahead-box, Steady, no-more, uses-by, change-fits, fits, on-route, front-low, apart-still}
+
+-- The box of a request is one of the table. A reservation's box lists next.
+module _ {t : Table} (a : Accepted t) {routes : List ℕ} {i : ℕ} {r : Train} (h : Placed t routes i r) where
+  reserve-box : (b : ℕ) → r .place < r .length → addressed (aroundTrain t routes i r) (Reserve b) ≡ true
+      → BoxOf t b × (lists (planAt t b) (routeAt routes i (r .place + 1)) ≡ true)
+  unfolding addressed aroundTrain
+  reserve-box b next at =
+      let segment = h .route .segment (r .place + 1) (omega arith) (omega arith) in
+      ⊎-elim
+      (λ e. rw e (a .ends _ segment .box (r .direction), a .listed (r .direction) _ segment))
+      (λ e. rw e (far-box a (r .direction) _ segment, far-listed a (r .direction) _ segment))
+      (or-true-iff _ _ (eqb-true-iff b _) (eqb-true-iff b _) .0 at)
+
+  pub request-box : (q : Request) → first (addressRows (aroundTrain t routes i r) r q) ≡ 0 → BoxOf t (requestBox q)
+  unfolding requestBox aroundTrain
+  request-box (Reserve b) e =
+      let (next, at) = address-iff (aroundTrain t routes i r) r (Reserve b) .0 e in
+      reserve-box b next at .0
+  request-box (Lock b) e =
+      let (next, at) = address-iff (aroundTrain t routes i r) r (Lock b) .0 e in
+      let (here, point) = lock-address-iff (aroundTrain t routes i r) b .0 at in
+      rw here (ahead-box a h)
+
+-- Train i of a line without messages asks.
+module _ {a : Line} (h : Steady a) {i : ℕ} (k : TrainOf (a .table) i) where
+  abbrev t : Table
+  t = a .table
+
+  abbrev routes : List ℕ
+  routes = a .routes
+
+  abbrev r : Train
+  r = trainAt a i
+
+  -- Its next segment, where it has one.
+  abbrev asked : ℕ
+  asked = routeAt routes i (r .place + 1)
+
+  -- A reservation. What it changes at box b is the holder of next, which was nobody's or the train's own.
+  module _ (b : ℕ) (next : r .place < r .length) (at : addressed (around a i) (Reserve b) ≡ true)
+      (free : another i (holderOf (planAt t b) (boxAt a b) asked) ≡ false) where
+    abbrev reserver : Train
+    reserver = withHolding (around a i) r (Reserve b)
+
+    abbrev reserving : SwitchBox
+    reserving = setHolder (planAt t b) (boxAt a b) asked i
+
+    asked-box : BoxOf t b × (lists (planAt t b) asked ≡ true)
+    unfolding around
+    asked-box = reserve-box (h .accepted) (h .placed i k) b next at
+
+    -- What is held by train j stays so, unless it is next here and j another train.
+    held-still : (j s : ℕ) → (s ≡ asked → j ≡ i) → holderOf (planAt t b) (boxAt a b) s ≡ j → holderOf (planAt t b) reserving s ≡ j
+    held-still j s own e =
+        elim (ℕ-discrete s asked) [
+          | yes f ↦ rw (f, own f) (holder-set (planAt t b) (boxAt a b) asked i (asked-box .1))
+          | no n ↦ holder-other (planAt t b) (boxAt a b) asked i n ∙ e
+        ]
+
+    -- What the train needs now is next here, or it needed it before.
+    needs-reserver : {c s : ℕ} → Needs t routes i reserver c s → ((c ≡ b) × (s ≡ asked)) ⊎ Needs t routes i r c s
+    unfolding withHolding around aroundTrain
+    needs-reserver (ahead w) = inr (ahead w)
+    needs-reserver (crossed w) = inr (crossed w)
+    needs-reserver (nearRecorded e) =
+        ⊎-elim (λ f. inl (sym f, refl)) (λ f. inr (nearRecorded f)) (or-true-iff _ _ (eqb-true-iff b _) Iff·rfl .0 e)
+    needs-reserver (farRecorded e) =
+        ⊎-elim (λ f. inl (sym f, refl)) (λ f. inr (farRecorded f)) (or-true-iff _ _ (eqb-true-iff b _) Iff·rfl .0 e)
+
+    locks-reserver : {c : ℕ} → NeedsLock t routes i reserver c → NeedsLock t routes i r c
+    unfolding withHolding
+    locks-reserver (crossedPoint w p) = crossedPoint w p
+    locks-reserver (lockRecorded e) = lockRecorded e
+
+    reserve-fits : Fitting (put a i reserver b reserving)
+    unfolding withHolding setHolder
+    reserve-fits =
+        change-fits h k (asked-box .0) {x = reserving} record {
+          apart = apart-still h k;
+          here = record {
+            reserved = λ s w. ⊎-elim
+                (λ (e, f). rw f (holder-set (planAt t b) (boxAt a b) asked i (asked-box .1)))
+                (λ u. held-still i s (λ _. refl) (fits h k b .reserved s u))
+                (needs-reserver w);
+            locked = λ w. fits h k b .locked (locks-reserver w);
+            used = λ e. let u = fits h k b .used e in uses-by refl refl u (u .covered);
+            sensed = fits h k b .sensed;
+          };
+          elsewhere = λ c n. no-more (record {
+            needs = λ s w. ⊎-elim (λ (e, f). absurd (n e)) (λ u. u) (needs-reserver w);
+            locks = locks-reserver;
+            uses = λ y u. uses-by refl refl u (u .covered);
+            crosses = λ q w. w;
+          }) (fits h k c);
+          others = λ j kj n f. record {
+            reserved = λ s w.
+                let e = f .reserved s w in
+                held-still j s (λ own. absurd (n (sym e ∙ another-false-iff i _ .0 (rw own free) (λ z. omega (arith, kj .low, e, z))))) e;
+            locked = f .locked;
+            used = f .used;
+            sensed = f .sensed;
+          };
+          withNext = λ _. next;
+          crossedHere = λ e. inr (e, λ q w. w);
+          crossedElsewhere = λ c n q w. w;
+        }
+
+  -- A lock. What it changes at the box ahead is the lock, which was nobody's or the train's own, and the position.
+  module _ (next : r .place < r .length) (point : isPoint (planAt t (boxBeyond t routes i r (r .place))) ≡ true)
+      (free : another i (boxAt a (boxBeyond t routes i r (r .place)) .lock) ≡ false) where
+    abbrev point-ahead : ℕ
+    point-ahead = boxBeyond t routes i r (r .place)
+
+    abbrev locker : Train
+    locker = withHolding (around a i) r (Lock point-ahead)
+
+    abbrev locking : SwitchBox
+    locking = granted (around a i) (planAt t point-ahead) (boxAt a point-ahead) (Lock point-ahead)
+
+    needs-locker : {c s : ℕ} → Needs t routes i locker c s → Needs t routes i r c s
+    unfolding withHolding
+    needs-locker (ahead w) = ahead w
+    needs-locker (crossed w) = crossed w
+    needs-locker (nearRecorded e) = nearRecorded e
+    needs-locker (farRecorded e) = farRecorded e
+
+    locks-locker : {c : ℕ} → c ≢ point-ahead → NeedsLock t routes i locker c → NeedsLock t routes i r c
+    unfolding withHolding
+    locks-locker n (crossedPoint w p) = crossedPoint w p
+    locks-locker n (lockRecorded e) = absurd (n refl)
+
+    -- The position that it gets joins front and next.
+    uses-new : UsesLock t routes i locker point-ahead (positionFor (planAt t point-ahead) (routeAt routes i (r .place)) asked)
+    unfolding withHolding
+    uses-new =
+        let place = h .placed i k in
+        let front = on-route h k (r .place) (front-low h k) (place .front) in
+        let after = on-route h k (r .place + 1) (omega arith) (omega arith) in
+        record {
+          place = r .place;
+          covered = record { behind = omega (arith, place .some); ahead = omega arith };
+          next = next;
+          there = refl;
+          point = point;
+          joined =
+              position-joins (h .accepted) (far-box (h .accepted) (r .direction) _ front) (r .direction) _ _ front after refl
+              (sym (between (place .route) (r .place) (front-low h k) next));
+        }
+
+    lock-fits : Fitting (put a i locker point-ahead locking)
+    unfolding withHolding around aroundTrain granted holderOf
+    lock-fits =
+        change-fits h k (ahead-box (h .accepted) (h .placed i k))
+        {x = locking} record {
+          apart = apart-still h k;
+          here = record {
+            reserved = λ s w. fits h k point-ahead .reserved s (needs-locker w);
+            locked = λ _. refl;
+            used = λ _. uses-new;
+            sensed = fits h k point-ahead .sensed;
+          };
+          elsewhere = λ c n. no-more (record {
+            needs = λ s. needs-locker;
+            locks = locks-locker n;
+            uses = λ y u. uses-by refl refl u (u .covered);
+            crosses = λ q w. w;
+          }) (fits h k c);
+          others = λ j kj n f. record {
+            reserved = f .reserved;
+            locked = λ w.
+                let e = f .locked w in
+                absurd (n (sym e ∙ another-false-iff i _ .0 free (λ z. omega (arith, kj .low, e, z))));
+            used = λ e. absurd (n (sym e));
+            sensed = f .sensed;
+          };
+          withNext = λ _. next;
+          crossedHere = λ e. inr (e, λ q w. w);
+          crossedElsewhere = λ c n q w. w;
+        }
+
+  -- Where the rows of codes stop nothing.
+  pub request-fits
+      : (q : Request) → first (addressRows (around a i) r q) ≡ 0
+      → first (boxRows (around a i) (planAt t (requestBox q)) (boxAt a (requestBox q)) q) ≡ 0
+      → Fitting (afterRequest a i q)
+  unfolding boxRows requestBox granted around aroundTrain
+  request-fits (Reserve b) e f =
+      let (next, at) = address-iff (around a i) r (Reserve b) .0 e in
+      let (free, none) = simp first-zero-iff at f in
+      reserve-fits b next at free
+  request-fits (Lock b) e f =
+      let (next, at) = address-iff (around a i) r (Lock b) .0 e in
+      let (here, point) = lock-address-iff (around a i) b .0 at in
+      let (sensor, (unheld, reserved)) = simp first-zero-iff at f in
+      let free : another i (boxAt a b .lock) ≡ false = unheld in
+      rw here (lock-fits next point (rw here at free))

@@ -1,0 +1,90 @@
+-- A box stays sound at a grant, an Enter and a Clear, and its answers have its codes.
+use Prim.Native.Nat.{ℕ, _-_, _≤_}
+use mathlib.Core.Path.{_≡_, refl}
+use mathlib.Core.Bool.{Bool, true, false, cond}
+use mathlib.Core.List.{List, [], _∷_}
+use native.Mathlib.Omega.{arith}
+use lib.Dec.{eqb}
+use Rattle.rules.specs.declared.BoxPlan.{BoxPlan}
+use Rattle.rules.specs.declared.Table.{Table}
+use Rattle.rules.specs.declared.SwitchBox.{SwitchBox}
+use Rattle.rules.specs.declared.Request.{Request}
+use Rattle.rules.specs.declared.Request.the-variants.{Reserve, Lock}
+use Rattle.rules.specs.declared.Train.{Train}
+use Rattle.rules.specs.Rows.{_if_, first}
+use Rattle.rules.specs.Track.{planAt, isPoint}
+use Rattle.rules.specs.Line.{Around, aroundTrain, requestBox, setHolder}
+use Rattle.rules.specs.Steps.{addressRows, boxRows, granted, sensed, released}
+use Rattle.rules.specs.Record.{answerCode}
+use Rattle.rules.proofs.Tests.{cond-each}
+use Rattle.rules.proofs.Boxes.{position-fits}
+use Rattle.rules.proofs.Sound.{BoxSound}
+use Rattle.rules.proofs.StepRows.{address-iff, lock-address-iff}
+
+-- A box's answer has one of its codes.
+reserve-code : (b : ℕ) (c : Bool) → answerCode (Reserve b) (first (22 if c ∷ [])) ≡ true
+unfolding answerCode first
+reserve-code b true = refl
+reserve-code b false = refl
+
+lock-code : (b : ℕ) (c d e : Bool) → answerCode (Lock b) (first (23 if c ∷ 24 if d ∷ 25 if e ∷ [])) ≡ true
+unfolding answerCode first
+lock-code b true d e = refl
+lock-code b false true e = refl
+lock-code b false false true = refl
+lock-code b false false false = refl
+
+pub answer-code : (v : Around) (p : BoxPlan) (x : SwitchBox) (q : Request) → answerCode q (first (boxRows v p x q)) ≡ true
+unfolding boxRows
+answer-code v p x (Reserve b) = reserve-code b _
+answer-code v p x (Lock b) = lock-code b _ _ _
+
+-- Boxes after a grant, an Enter and a Clear.
+module _ {k : ℕ} {p : BoxPlan} {x : SwitchBox} (h : BoxSound k p x) where
+  holder-sound : (s i : ℕ) → i ≤ k → BoxSound k p (setHolder p x s i)
+  unfolding setHolder
+  holder-sound s i low =
+      record {
+        position = h .position;
+        lock = h .lock;
+        stem = chosen (p .stem) (h .stem);
+        left = chosen (p .left) (h .left);
+        right = chosen (p .right) (h .right);
+      }
+    where
+      chosen : (place : ℕ) {y : ℕ} → y ≤ k → cond (eqb s place) i y ≤ k
+      chosen place {y} e = cond-each (λ n. n ≤ k) (eqb s place) i y (λ _. low) (λ _. e)
+
+  lock-sound : (v : Around) (b : ℕ) → v .number ≤ k → isPoint p ≡ true → BoxSound k p (granted v p x (Lock b))
+  unfolding granted
+  lock-sound v b low point =
+      record {
+        position = position-fits p (v .front) (v .next) point;
+        lock = low;
+        stem = h .stem;
+        left = h .left;
+        right = h .right;
+      }
+
+  pub sensed-sound : BoxSound k p (sensed x)
+  unfolding sensed
+  sensed-sound = record { position = h .position; lock = h .lock; stem = h .stem; left = h .left; right = h .right }
+
+pub released-sound : {k : ℕ} {p : BoxPlan} {x : SwitchBox} → BoxSound k p x → (s z : ℕ) → BoxSound k p (released p x s z)
+unfolding released
+released-sound {k} {p} {x} h s z =
+    let free : BoxSound k p (record { sensor = false; position = x .position; lock = 0; stem = x .stem; left = x .left; right = x .right })
+    = record { position = h .position; lock = omega arith; stem = h .stem; left = h .left; right = h .right } in
+    holder-sound (holder-sound free s 0 (omega arith)) z 0 (omega arith)
+
+-- The box that train i's request is made at, after its yes.
+pub granted-sound
+    : (t : Table) (routes : List ℕ) (i : ℕ) (r : Train) (q : Request) {k : ℕ} {x : SwitchBox}
+    → BoxSound k (planAt t (requestBox q)) x → i ≤ k → first (addressRows (aroundTrain t routes i r) r q) ≡ 0
+    → BoxSound k (planAt t (requestBox q)) (granted (aroundTrain t routes i r) (planAt t (requestBox q)) x q)
+unfolding requestBox aroundTrain granted
+granted-sound t routes i r (Reserve b) h low e = holder-sound h _ _ low
+granted-sound t routes i r (Lock b) h low e =
+    let (next, at) = address-iff (aroundTrain t routes i r) r (Lock b) .0 e in
+    let (here, point) = lock-address-iff (aroundTrain t routes i r) b .0 at in
+    lock-sound h (aroundTrain t routes i r) b low (rw here point)

@@ -1,0 +1,188 @@
+-- The invariant holds on the start line of every accepted table.
+use Prim.Native.Nat.{ℕ, zero, suc, _≤_}
+use mathlib.Core.Path.{_≡_, refl, _∙_}
+use mathlib.Core.Bool.{true, false, false≢true}
+use mathlib.Core.List.{List}
+use native.Mathlib.Decide.{ℕ-discrete}
+use native.Mathlib.Omega.{arith}
+use Rattle.rules.specs.declared.Table.{Table}
+use Rattle.rules.specs.declared.SwitchBox.{SwitchBox}
+use Rattle.rules.specs.declared.Message.the-variants.{Idle}
+use Rattle.rules.specs.declared.Train.{Train}
+use Rattle.rules.specs.Track.{planAt, trainPlanAt, farBox}
+use Rattle.rules.specs.Network.{lists}
+use Rattle.rules.specs.Line.{noBox, noTrain, boxAt, trainAt, holderOf, startTrain, startsOn, startHolder, startBoxWith, startBox, startLine}
+use Rattle.rules.specs.Record.{messageFault, recordFault}
+use Rattle.rules.specs.History.{startPlace}
+use Rattle.rules.specs.Safety.{TrainOf, Covers, Crosses, onRoute}
+use Rattle.rules.specs.Invariant.{settled, Needs, ahead, crossed, nearRecorded, farRecorded, NeedsLock, crossedPoint, lockRecorded, Fitting, Invariant}
+use Rattle.rules.proofs.Tests.{facts, not-passed, cond-each}
+use Rattle.rules.proofs.Rows.{filled-length, filled-record, filled-each}
+use Rattle.rules.proofs.Accepted.{Accepted, BoxOf}
+use Rattle.rules.proofs.Boxes.{far-box, far-listed}
+use Rattle.rules.proofs.Frames.{holder-read}
+use Rattle.rules.proofs.Sound.{silent, sound-iff}
+use Rattle.rules.proofs.StepRows.{not-open}
+use Rattle.rules.proofs.Settled.{settled-line}
+
+-- The train that a segment is reserved for at the start: one of the trains looked at, or nobody; and the only one of them that
+-- starts there.
+start-holder-low : (t : Table) (b s j : ℕ) → startHolder t b s j ≤ j
+unfolding startHolder
+start-holder-low t b s zero = omega arith
+start-holder-low t b s (suc j) =
+    cond-each (λ n. n ≤ suc j) (startsOn t b s (suc j)) (suc j) (startHolder t b s j) (λ _. omega arith)
+    (λ _. omega (arith, start-holder-low t b s j))
+
+start-holder
+    : (t : Table) (b s i j : ℕ) → startsOn t b s i ≡ true → 1 ≤ i → i ≤ j
+    → ((p : ℕ) → 1 ≤ p → p ≤ j → startsOn t b s p ≡ true → p ≡ i) → startHolder t b s j ≡ i
+unfolding startHolder
+start-holder t b s i zero e low high only = absurd (omega arith)
+start-holder t b s i (suc j) e low high only =
+    elim (ℕ-discrete (suc j) i) [
+      | yes f ↦ rw (f, e)
+      | no n ↦ rw (not-passed (startsOn t b s (suc j)) (λ h. n (only (suc j) (omega arith) (omega arith) h)))
+          (start-holder t b s i j e low (omega arith) (λ p l h. only p l (omega arith)))
+    ]
+
+-- It is what the box reads for a segment that it lists.
+start-reads
+    : (t : Table) (b s : ℕ) → lists (planAt t b) s ≡ true → holderOf (planAt t b) (startBox t b) s ≡ startHolder t b s (t .k)
+unfolding startBox startBoxWith
+start-reads t b s h =
+    holder-read (planAt t b) (startBox t b) s (λ z. z ≡ startHolder t b s (t .k)) h (λ e. rw e) (λ e. rw e) (λ e. rw e)
+
+-- A train at the start covers its first place only, so it crosses no box; and it needs no lock.
+start-covers : {q : ℕ} → Covers startPlace q → q ≡ 1
+start-covers c = omega arith
+
+start-crosses : {t : Table} {routes : List ℕ} {i d q b : ℕ} → Crosses t routes i d startPlace q b → ⊥
+start-crosses c = omega arith
+
+start-needs-no-lock : {t : Table} {i b : ℕ} → NeedsLock t (t .routes) i (startTrain t i) b → ⊥
+unfolding startTrain
+start-needs-no-lock (crossedPoint c e) = start-crosses c
+start-needs-no-lock (lockRecorded e) = false≢true e
+
+module _ (t : Table) (a : Accepted t) where
+  -- The trains and boxes of the start line.
+  pub start-train : (i : ℕ) → TrainOf t i → trainAt (startLine t) i ≡ startTrain t i
+  unfolding startLine trainAt
+  start-train i h = filled-record (startTrain t) noTrain 16 (t .k) i (a .limits .trainsHigh) (h .low) (h .high)
+
+  start-box : (b : ℕ) → BoxOf t b → boxAt (startLine t) b ≡ startBox t b
+  unfolding startLine boxAt
+  start-box b h = filled-record (startBox t) noBox 96 (t .m) b (a .limits .boxesHigh) (h .low) (h .high)
+
+  -- What holds of each of them, and where there is none, holds of every number.
+  each-start-train
+      : (P : Train → Type 0) → ((i : ℕ) → TrainOf t i → P (startTrain t i)) → P noTrain → (i : ℕ) → P (trainAt (startLine t) i)
+  unfolding startLine trainAt
+  each-start-train P these none =
+      filled-each (startTrain t) noTrain 16 (t .k) P (a .limits .trainsHigh)
+      (λ i l h. these i (record { low = l; high = h })) none
+
+  each-start-box
+      : (P : SwitchBox → Type 0) → ((b : ℕ) → BoxOf t b → P (startBox t b)) → P noBox → (b : ℕ) → P (boxAt (startLine t) b)
+  unfolding startLine boxAt
+  each-start-box P these none =
+      filled-each (startBox t) noBox 96 (t .m) P (a .limits .boxesHigh)
+      (λ b l h. these b (record { low = l; high = h })) none
+
+  -- No train has a message, so the line is settled. No sensor is active, and no lock is held.
+  pub start-message : (i : ℕ) → trainAt (startLine t) i .message ≡ Idle
+  unfolding startTrain
+  start-message = each-start-train (λ r. r .message ≡ Idle) (λ i h. refl) refl
+
+  pub settled-start : settled (startLine t) ≡ startLine t
+  settled-start = settled-line (startLine t) start-message
+
+  start-sensor : (b : ℕ) → boxAt (startLine t) b .sensor ≡ false
+  unfolding startBox startBoxWith
+  start-sensor = each-start-box (λ x. x .sensor ≡ false) (λ b h. refl) refl
+
+  start-lock : (b : ℕ) → boxAt (startLine t) b .lock ≡ 0
+  unfolding startBox startBoxWith
+  start-lock = each-start-box (λ x. x .lock ≡ 0) (λ b h. refl) refl
+
+  -- The first segment of a train is reserved for it at the box ahead.
+  start-reserved : (i : ℕ) → TrainOf t i
+      → let s = onRoute t i 1 in
+      let b = farBox t (trainPlanAt t i .direction) s in
+      holderOf (planAt t b) (boxAt (startLine t) b) s ≡ i
+  unfolding startsOn
+  start-reserved i h =
+      let route = a .routes i h in
+      let d = trainPlanAt t i .direction in
+      let s = onRoute t i 1 in
+      let b = farBox t d s in
+      let segment = route .segment 1 (omega arith) (route .low) in
+      rw (start-box b (far-box a d s segment))
+      (start-reads t b s (far-listed a d s segment)
+      ∙ start-holder t b s i (t .k) (simp facts (refl, refl)) (h .low) (h .high)
+      (λ p low high e. a .starts p i (record { low = low; high = high }) h ((simp facts at e) .0)))
+
+  -- So what a train needs at the start is reserved for it.
+  start-needs
+      : (i : ℕ) → TrainOf t i → {b s : ℕ} → Needs t (t .routes) i (startTrain t i) b s
+      → holderOf (planAt t b) (boxAt (startLine t) b) s ≡ i
+  unfolding startTrain
+  start-needs i h (ahead c) = rw (start-covers c) (start-reserved i h)
+  start-needs i h (crossed c) = absurd (start-crosses c)
+  start-needs i h (nearRecorded e) = absurd (false≢true e)
+  start-needs i h (farRecorded e) = absurd (false≢true e)
+
+  -- The record check finds nothing, and trains and boxes fit together: so the invariant holds.
+  start-sound : recordFault (startLine t) ≡ false
+  unfolding startLine startTrain startBox startBoxWith messageFault
+  start-sound =
+      sound-iff (startLine t) .1 (
+      record {
+        table = a;
+        trains = λ i h.
+            let route = a .routes i h in
+            rw (start-train i h)
+            (record { route = route; some = omega arith; most = omega arith; tail = omega arith; front = route .low });
+        messages = λ i h. rw (start-train i h) silent;
+        boxes = λ b h.
+            rw (start-box b h) (
+            record {
+              position = a .plans b h .position;
+              lock = omega arith;
+              stem = start-holder-low t b _ (t .k);
+              left = start-holder-low t b _ (t .k);
+              right = start-holder-low t b _ (t .k);
+            });
+      })
+
+  start-fitting : Fitting (startLine t)
+  unfolding startLine startTrain
+  start-fitting =
+      record {
+        apart = λ i j hi hj p q c d e.
+            let first : p ≡ 1 = start-covers (rw (start-train i hi) at c) in
+            let other : q ≡ 1 = start-covers (rw (start-train j hj) at d) in
+            a .starts i j hi hj (rw (first, other) at e);
+        fits = λ i h b.
+            rw (start-train i h) (
+            record {
+              reserved = λ s n. start-needs i h n;
+              locked = λ n. absurd (start-needs-no-lock n);
+              used = λ e. absurd (omega (arith, start-lock b));
+              sensed = λ q c. absurd (start-crosses c);
+            });
+        withNext = λ i h e. absurd (false≢true (rw (start-train i h) at e));
+        sensedCrossed = λ b e. absurd (false≢true (rw (start-sensor b) at e));
+      }
+
+  pub start-invariant : Invariant (startLine t)
+  unfolding startLine
+  start-invariant =
+      record {
+        boxes = filled-length 96 noBox _;
+        trains = filled-length 16 noTrain _;
+        sound = start-sound;
+        unrecorded = λ i h q o. absurd (not-open (start-message i) o);
+        fitting = rw settled-start start-fitting;
+      }

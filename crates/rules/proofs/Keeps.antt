@@ -1,6 +1,6 @@
 -- Every step keeps the invariant.
 use Prim.Native.Nat.{ℕ, _-_}
-use mathlib.Core.Path.{_≡_, refl, sym, _∙_, ap}
+use mathlib.Core.Path.{_≡_, sym, _∙_, ap}
 use mathlib.Core.Logic.{_≢_}
 use mathlib.Core.Bool.{false}
 use mathlib.Core.List.{List}
@@ -9,7 +9,6 @@ use lib.ListN.{length}
 use Rattle.rules.specs.declared.Table.{Table}
 use Rattle.rules.specs.declared.SwitchBox.{SwitchBox}
 use Rattle.rules.specs.declared.Request.{Request}
-use Rattle.rules.specs.declared.Request.the-variants.{Reserve, Lock}
 use Rattle.rules.specs.declared.Message.{Message}
 use Rattle.rules.specs.declared.Message.the-variants.{Idle, Sent, Answered}
 use Rattle.rules.specs.declared.Train.{Train}
@@ -18,7 +17,7 @@ use Rattle.rules.specs.declared.Outcome.{Outcome}
 use Rattle.rules.specs.Rows.{_if_, first}
 use Rattle.rules.specs.Track.{planAt}
 use Rattle.rules.specs.Line.{Around, aroundTrain, around, trainAt, putTrain, putBox}
-use Rattle.rules.specs.Steps.{Step, withMessage, addressed, atEnd, recorded, addressRows, entered, cleared}
+use Rattle.rules.specs.Steps.{Step, withMessage, recorded, addressRows, entered, cleared}
 use Rattle.rules.specs.Record.{answerCode}
 use Rattle.rules.specs.Safety.{TrainOf}
 use Rattle.rules.specs.Invariant.{settled, Fitting, Open, sent, answered, Invariant}
@@ -28,7 +27,7 @@ use Rattle.rules.proofs.Frames.{put, set-length, each-train, each-box, 
 use Rattle.rules.proofs.Sound.{Placed, BoxSound, MessageSound, silent, asking, answering, sound-iff, open-address}
 use Rattle.rules.proofs.SoundBoxes.{answer-code, granted-sound, sensed-sound, released-sound}
 use Rattle.rules.proofs.StepKinds.{afterMessage, afterGrant, afterHearing, afterEnter, afterClear, Sends, Answers, Hears, Enters, Clears, Does, refuses, sends, denies, grants, hears, enters, clears}
-use Rattle.rules.proofs.StepRows.{not-open, request-iff, enter-iff, clear-iff}
+use Rattle.rules.proofs.StepRows.{showing, address-same, recorded-same, not-open, request-iff, enter-iff, clear-iff}
 use Rattle.rules.proofs.Settled.{line-sound, sized, Alike, message-alike, heard-alike, heard-message, table-settled, alike-settled}
 use Rattle.rules.proofs.SettledSteps.{enter-idle, send-settled, deny-settled, hear-settled, grant-settled, grant-answers, clear-settled, clear-free, grant-asks, enter-settled, enter-free}
 use Rattle.rules.proofs.Change.{Steady, ahead-box, passed-box}
@@ -95,31 +94,6 @@ module _ {l : Line} (h : Invariant l) {i : ℕ} (k : TrainOf (l .table) i) {r : 
       let limits = line-sound h .table .limits in
       let box : BoxOf (l .table) 1 = omega arith in
       rw (train-alone l i r 1) at (put-keeps box (line-sound h .boxes 1 box) (rw (train-alone l i r 1) fits))
-
--- What a train asks for, and whether it has recorded that, does not hang on how much it covers, nor on its message.
-module _ (t : Table) (routes : List ℕ) (i : ℕ) (r : Train) (covered : ℕ) (message : Message) where
-  abbrev showing : Train
-  showing =
-      record {
-        direction = r .direction;
-        length = r .length;
-        place = r .place;
-        covered = covered;
-        near = r .near;
-        far = r .far;
-        lock = r .lock;
-        message = message;
-      }
-
-  address-same : (q : Request) → addressRows (aroundTrain t routes i showing) showing q ≡ addressRows (aroundTrain t routes i r) r q
-  unfolding addressRows addressed atEnd aroundTrain
-  address-same (Reserve b) = refl
-  address-same (Lock b) = refl
-
-  recorded-same : (q : Request) → recorded (aroundTrain t routes i showing) showing q ≡ recorded (aroundTrain t routes i r) r q
-  unfolding recorded aroundTrain
-  recorded-same (Reserve b) = refl
-  recorded-same (Lock b) = refl
 
 -- A train's own part by its message: nothing is asked of one without.
 own-idle : (t : Table) (routes : List ℕ) (i : ℕ) {r : Train} → Placed t routes i r → r .message ≡ Idle → Own t routes i r

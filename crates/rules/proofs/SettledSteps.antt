@@ -1,9 +1,11 @@
 -- What each step is on the settled line.
 use Prim.Native.Nat.{ℕ}
-use mathlib.Core.Path.{_≡_, refl, sym, _∙_}
+use mathlib.Core.Path.{_≡_, refl, sym, _∙_, ap}
 use mathlib.Core.Logic.{_≢_}
 use mathlib.Core.Bool.{Bool, true, false, _&&_, _||_, false≢true}
+use mathlib.Core.List.{List}
 use lib.Dec.{eqb}
+use Rattle.rules.specs.declared.Table.{Table}
 use Rattle.rules.specs.declared.Request.{Request}
 use Rattle.rules.specs.declared.Request.the-variants.{Reserve, Lock}
 use Rattle.rules.specs.declared.Message.{Message}
@@ -12,14 +14,14 @@ use Rattle.rules.specs.declared.Train.{Train}
 use Rattle.rules.specs.declared.Line.{Line}
 use Rattle.rules.specs.Rows.{first}
 use Rattle.rules.specs.Track.{planAt}
-use Rattle.rules.specs.Line.{Around, around, boxAt, trainAt, requestBox}
-use Rattle.rules.specs.Steps.{Step, addressed, recorded, atEnd, addressRows, requestRows, boxRows, enterRows, clearRows, withMessage}
+use Rattle.rules.specs.Line.{Around, aroundTrain, around, boxAt, trainAt, requestBox}
+use Rattle.rules.specs.Steps.{Step, addressed, recorded, addressRows, requestRows, boxRows, enterRows, clearRows, withMessage}
 use Rattle.rules.specs.Safety.{TrainOf}
 use Rattle.rules.specs.Invariant.{settled, Open, sent, answered, Invariant}
 use Rattle.rules.proofs.Tests.{or-left, and-true}
 use Rattle.rules.proofs.Sound.{open-address}
 use Rattle.rules.proofs.StepKinds.{afterRequest, afterMessage, afterGrant, afterHearing, afterEnter, afterClear, Sends, Answers, Hears, Enters, Clears}
-use Rattle.rules.proofs.StepRows.{address-iff, request-iff, lock-address-iff, enter-iff}
+use Rattle.rules.proofs.StepRows.{address-same, recorded-same, address-iff, request-iff, lock-address-iff, enter-iff}
 use Rattle.rules.proofs.Settled.{line-sound, settled-sends, settled-denied, settled-granted, settled-heard, settled-entered, settled-cleared, settled-quiet, settled-put, settled-sent, settled-idle, table-settled, train-settled, alike-settled, around-settled, box-settled}
 
 -- The request of an open message is one that 16 and 17 do not stop.
@@ -61,15 +63,14 @@ enter-idle {l} {s} h e = go (trainAt l (s .train) .message) refl
     go (Answered q c) m = absurd (closed q (rw m answered))
 
 -- A request that is sent can be made again once its message is gone.
-recorded-message : (v : Around) (r : Train) (g : Message) (q : Request) → recorded v (withMessage r g) q ≡ recorded v r q
-unfolding recorded withMessage
-recorded-message v r g (Reserve b) = refl
-recorded-message v r g (Lock b) = refl
-
-request-free : (v : Around) (r : Train) (q : Request) → first (addressRows v r q) ≡ 0 → recorded v r q ≡ false
-    → first (requestRows v (withMessage r Idle) q) ≡ 0
-unfolding withMessage addressRows atEnd
-request-free v r q e f = request-iff v (withMessage r Idle) q .1 (refl, (e, recorded-message v r Idle q ∙ f))
+request-free
+    : (t : Table) (routes : List ℕ) (i : ℕ) (r : Train) (q : Request) → first (addressRows (aroundTrain t routes i r) r q) ≡ 0
+    → recorded (aroundTrain t routes i r) r q ≡ false
+    → first (requestRows (aroundTrain t routes i r) (withMessage r Idle) q) ≡ 0
+unfolding aroundTrain withMessage
+request-free t routes i r q e f =
+    request-iff (aroundTrain t routes i r) (withMessage r Idle) q .1
+    (refl, (ap first (address-same t routes i r (r .covered) Idle q) ∙ e, recorded-same t routes i r (r .covered) Idle q ∙ f))
 
 module _ {l : Line} {s : Step} where
   -- A request sent, denied and heard leave the settled line as it is.
@@ -113,12 +114,13 @@ module _ {l : Line} {s : Step} where
   module _ (h : Invariant l) where
     pub grant-asks : {q : Request} → Answers l s q 0
         → first (requestRows (around (settled l) (s .train)) (trainAt (settled l) (s .train)) q) ≡ 0
+    unfolding around
     grant-asks {q} w =
         let i = s .train in
         let r = trainAt l i in
         let asked : Open q (r .message) = rw (w .sent) sent in
-        rw (around-settled, train-settled, settled-sent _ _ i r q (w .sent))
-        (request-free (around l i) r q (addressed-open h i (w .train) q asked) (h .unrecorded i (w .train) q asked))
+        rw (around-settled l i, train-settled, settled-sent _ _ i r q (w .sent))
+        (request-free _ _ i r q (addressed-open h i (w .train) q asked) (h .unrecorded i (w .train) q asked))
 
     pub enter-settled : Enters l s → settled (afterEnter l (s .train)) ≡ afterEnter (settled l) (s .train)
     enter-settled w =

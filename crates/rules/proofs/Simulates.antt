@@ -2,7 +2,7 @@
 use Prim.Native.Nat.{ℕ, _≤_}
 use mathlib.Core.Path.{_≡_, refl, sym, _∙_, ap}
 use mathlib.Core.Logic.{_≢_}
-use mathlib.Core.Bool.{false, not, _&&_, _||_}
+use mathlib.Core.Bool.{true, false, not, _&&_, _||_}
 use mathlib.Core.List.{[], _∷_, Option·toList}
 use mathlib.Core.Option.{some}
 use native.Mathlib.Omega.{arith}
@@ -86,13 +86,10 @@ module _ (kept : Kept) (s : Step) where
   unfolding added Option·toList
   added-grant r e k = rw (e, k)
 
-  added-enter : s .kind ≡ 5 → added kept (s answered 0) ≡ s ∷ []
+  added-move : (kind : ℕ) → eqb kind 3 ≡ false → (eqb kind 5 || eqb kind 6) ≡ true → s .kind ≡ kind
+      → added kept (s answered 0) ≡ s ∷ []
   unfolding added
-  added-enter e = rw e
-
-  added-clear : s .kind ≡ 6 → added kept (s answered 0) ≡ s ∷ []
-  unfolding added
-  added-clear e = rw e
+  added-move kind answer move e = rw (e, answer, move)
 
 -- The atomic steps, where no row stops them.
 module _ (a : Line) where
@@ -209,13 +206,13 @@ module _ (l : Line) (h : Invariant l) (kept : Kept) (m : Remembers kept l) (s : 
       let kind = w .kind in
       single
       (remembers-put 0 _ _ _ (w .train) (still-kept 0 (omega arith) (omega arith) (w .train)))
-      (added-enter kept s (w .kind))
+      (added-move kept s 5 refl refl (w .kind))
       (atomic-enter (settled l) s (w .kind) (enter-free h w))
       (enter-settled h w)
   simulates o (clears w) =
       let kind = w .kind in
       single
       (remembers-put 0 _ _ _ (w .train) (still-kept 0 (omega arith) (omega arith) (w .train)))
-      (added-clear kept s (w .kind))
+      (added-move kept s 6 refl refl (w .kind))
       (atomic-clear (settled l) s (w .kind) (clear-free w))
       (clear-settled w)

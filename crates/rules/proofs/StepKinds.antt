@@ -119,23 +119,23 @@ unfolding clearRows
 clear-codes r = row 20 _ _ (omega arith) no-code
 
 -- A step with this effect does one of these.
-abbrev Ends : Line → Step → Effect → Type 0
-Ends l s e = Does l s (apply l (s .train) e)
+abbrev EndsIn : Line → Step → Effect → Type 0
+EndsIn l s e = Does l s (apply l (s .train) e)
 
 module _ (l : Line) (s : Step) where
   -- A refusal; an effect chosen by a test, after a row of codes, and after code 14.
-  refusal : (c : ℕ) → c ≢ 0 → c ≢ 23 → Ends l s (refused c)
+  refusal : (c : ℕ) → c ≢ 0 → c ≢ 23 → EndsIn l s (refused c)
   unfolding apply
   refusal c n other = refuses n other
 
-  either : (c : Bool) (e f : Effect) → (c ≡ true → Ends l s e) → (c ≡ false → Ends l s f) → Ends l s (cond c e f)
-  either = cond-each (Ends l s)
+  either : (c : Bool) (e f : Effect) → (c ≡ true → EndsIn l s e) → (c ≡ false → EndsIn l s f) → EndsIn l s (cond c e f)
+  either = cond-each (EndsIn l s)
 
-  unstopped : (c : ℕ) (e : Effect) → c ≢ 23 → (c ≡ 0 → Ends l s e) → Ends l s (unless c e)
+  unstopped : (c : ℕ) (e : Effect) → c ≢ 23 → (c ≡ 0 → EndsIn l s e) → EndsIn l s (unless c e)
   unfolding unless
   unstopped c e other f = either (eqb c 0) _ _ (λ z. f (eqb-true c 0 z)) (λ n. refusal c (eqb-false c 0 n) other)
 
-  known : (e : Effect) → (TrainOf (l .table) (s .train) → Ends l s e) → Ends l s (forTrain l (s .train) e)
+  known : (e : Effect) → (TrainOf (l .table) (s .train) → EndsIn l s e) → EndsIn l s (forTrain l (s .train) e)
   unfolding forTrain
   known e f =
       either (outside (l .table .k) (s .train)) _ _ (λ _. refusal 14 (omega arith) (omega arith)) λ z.
@@ -144,14 +144,14 @@ module _ (l : Line) (s : Step) where
 
   -- Kinds 1 and 2.
   send-ends : (q : Request) → s .kind ≡ requestKind q → s .box ≡ requestBox q → TrainOf (l .table) (s .train)
-      → Ends l s (send l (s .train) q)
+      → EndsIn l s (send l (s .train) q)
   unfolding send apply
   send-ends q kind box train =
       unstopped _ _ (request-codes _ _ q) λ free. sends (record { kind = kind; box = box; train = train; free = free })
 
   -- Kind 3: a no leaves the box as it was.
   reply-ends : (q : Request) → s .kind ≡ 3 → TrainOf (l .table) (s .train) → trainAt l (s .train) .message ≡ Sent q
-      → Ends l s (reply l (s .train) q)
+      → EndsIn l s (reply l (s .train) q)
   unfolding reply apply
   reply-ends q kind train sent = go (first (boxRows (around l (s .train)) p x q)) refl
     where
@@ -163,7 +163,7 @@ module _ (l : Line) (s : Step) where
 
       go
           : (c : ℕ) → first (boxRows (around l (s .train)) p x q) ≡ c
-          → Ends l s (
+          → EndsIn l s (
           trainAndBox c (withMessage (trainAt l (s .train)) (Answered q c)) (requestBox q)
           (cond (eqb c 0) (granted (around l (s .train)) p x q) x))
       go zero code = grants (record { kind = kind; train = train; sent = sent; code = code })
@@ -172,7 +172,7 @@ module _ (l : Line) (s : Step) where
           (denies (record { kind = kind; train = train; sent = sent; code = code }) (omega arith))
 
   answer-ends : (g : Message) → trainAt l (s .train) .message ≡ g → s .kind ≡ 3 → TrainOf (l .table) (s .train)
-      → Ends l s (boxAnswers l (s .train) g)
+      → EndsIn l s (boxAnswers l (s .train) g)
   unfolding boxAnswers
   answer-ends Idle e kind train = refusal 21 (omega arith) (omega arith)
   answer-ends (Sent q) e kind train = reply-ends q kind train e
@@ -180,23 +180,23 @@ module _ (l : Line) (s : Step) where
 
   -- Kind 4.
   hear-ends : (g : Message) → trainAt l (s .train) .message ≡ g → s .kind ≡ 4 → TrainOf (l .table) (s .train)
-      → Ends l s (trainHears l (s .train) g)
+      → EndsIn l s (trainHears l (s .train) g)
   unfolding trainHears apply
   hear-ends Idle e kind train = refusal 21 (omega arith) (omega arith)
   hear-ends (Sent q) e kind train = refusal 21 (omega arith) (omega arith)
   hear-ends (Answered q c) e kind train = hears (record { kind = kind; train = train; answer = e })
 
   -- Kinds 5 and 6.
-  enter-ends : s .kind ≡ 5 → TrainOf (l .table) (s .train) → Ends l s (enter l (s .train))
+  enter-ends : s .kind ≡ 5 → TrainOf (l .table) (s .train) → EndsIn l s (enter l (s .train))
   unfolding enter apply
   enter-ends kind train = unstopped _ _ (enter-codes _ _) λ free. enters (record { kind = kind; train = train; free = free })
 
-  clear-ends : s .kind ≡ 6 → TrainOf (l .table) (s .train) → Ends l s (clear l (s .train))
+  clear-ends : s .kind ≡ 6 → TrainOf (l .table) (s .train) → EndsIn l s (clear l (s .train))
   unfolding clear apply
   clear-ends kind train = unstopped _ _ (clear-codes _) λ free. clears (record { kind = kind; train = train; free = free })
 
   -- Kinds 3 to 6.
-  plain-ends : 3 ≤ s .kind → s .kind ≤ 6 → TrainOf (l .table) (s .train) → Ends l s (plainEffect l (s .kind) (s .train))
+  plain-ends : 3 ≤ s .kind → s .kind ≤ 6 → TrainOf (l .table) (s .train) → EndsIn l s (plainEffect l (s .kind) (s .train))
   unfolding plainEffect
   plain-ends low high train =
       either (eqb (s .kind) 3) _ _ (λ e. answer-ends _ refl (eqb-true _ 3 e) train) λ a.

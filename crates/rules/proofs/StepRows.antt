@@ -3,14 +3,16 @@ use Prim.Native.Nat.{ℕ, _≤_, _<_}
 use mathlib.Core.Path.{_≡_, refl, sym, _∙_, ap}
 use mathlib.Core.Logic.{_↔_, Iff·rfl, _≢_}
 use mathlib.Core.Bool.{true, false, false≢true}
+use mathlib.Core.List.{List}
 use native.Mathlib.Omega.{arith}
+use Rattle.rules.specs.declared.Table.{Table}
 use Rattle.rules.specs.declared.Request.{Request}
-use Rattle.rules.specs.declared.Request.the-variants.{Lock}
+use Rattle.rules.specs.declared.Request.the-variants.{Reserve, Lock}
 use Rattle.rules.specs.declared.Message.{Message}
 use Rattle.rules.specs.declared.Message.the-variants.{Idle, Sent, Answered}
 use Rattle.rules.specs.declared.Train.{Train}
 use Rattle.rules.specs.Rows.{first}
-use Rattle.rules.specs.Line.{Around}
+use Rattle.rules.specs.Line.{Around, aroundTrain}
 use Rattle.rules.specs.Steps.{isOpen, addressed, recorded, atEnd, addressRows, requestRows, enterRows, clearRows, another}
 use Rattle.rules.specs.Invariant.{Open, sent, answered}
 use Rattle.rules.proofs.Tests.{facts, implies-iff, first-none, first-zero-iff}
@@ -52,6 +54,31 @@ request-iff v r q =
       λ (closed, ((next, (at, none)), new)). (closed, (next, (at, (new, refl)))),
     )
 
+-- What a train asks for, and whether it has recorded that, does not hang on how much it covers, nor on its message.
+module _ (t : Table) (routes : List ℕ) (i : ℕ) (r : Train) (covered : ℕ) (message : Message) where
+  abbrev pub showing : Train
+  showing =
+      record {
+        direction = r .direction;
+        length = r .length;
+        place = r .place;
+        covered = covered;
+        near = r .near;
+        far = r .far;
+        lock = r .lock;
+        message = message;
+      }
+
+  pub address-same : (q : Request) → addressRows (aroundTrain t routes i showing) showing q ≡ addressRows (aroundTrain t routes i r) r q
+  unfolding addressRows addressed atEnd aroundTrain
+  address-same (Reserve b) = refl
+  address-same (Lock b) = refl
+
+  pub recorded-same : (q : Request) → recorded (aroundTrain t routes i showing) showing q ≡ recorded (aroundTrain t routes i r) r q
+  unfolding recorded aroundTrain
+  recorded-same (Reserve b) = refl
+  recorded-same (Lock b) = refl
+
 pub lock-address-iff : (v : Around) (b : ℕ) → (addressed v (Lock b) ≡ true) ↔ ((b ≡ v .ahead) × (v .point ≡ true))
 unfolding addressed
 lock-address-iff v b = simp facts Iff·rfl
@@ -63,8 +90,12 @@ pub enter-iff : (v : Around) (r : Train)
 unfolding enterRows atEnd
 enter-iff v r =
     simp (facts, implies-iff, first-zero-iff, first-none) (
-      λ (single, (next, (((near, far), lock), none))). (single, (next, (near, (far, lock)))),
-      λ (single, (next, (near, (far, lock)))). (single, (next, (((near, far), lock), refl))),
+      λ (single, (next, ((ends, lock), none))).
+          let both : (r .near ≡ true) × (r .far ≡ true) = ends in
+          (single, (next, (both .0, (both .1, lock)))),
+      λ (single, (next, (near, (far, lock)))).
+          let both : (r .near ≡ true) × (r .far ≡ true) = (near, far) in
+          (single, (next, ((both, lock), refl))),
     )
 
 -- Clear: the train is crossing.

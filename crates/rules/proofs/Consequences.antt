@@ -14,7 +14,8 @@ use Rattle.rules.specs.declared.Line.{Line}
 use Rattle.rules.specs.declared.Outcome.{Outcome}
 use Rattle.rules.specs.Rows.{_if_, first}
 use Rattle.rules.specs.File.{decode}
-use Rattle.rules.specs.Line.{startLine, Around, aroundTrain, around, boxAt, trainAt, requestBox, messageBox}
+use Rattle.rules.specs.declared.Around.{Around}
+use Rattle.rules.specs.Line.{startLine, aroundTrain, around, boxAt, trainAt, requestBox, messageBox}
 use Rattle.rules.specs.Steps.{Step, another, boxRows, step}
 use Rattle.rules.specs.Safety.{TrainOf, reached}
 use Rattle.rules.specs.Invariant.{CrossesAt, crossedPoint, settled, sent, Invariant}

@@ -16,7 +16,8 @@ use Rattle.rules.specs.declared.Line.{Line}
 use Rattle.rules.specs.declared.Outcome.{Outcome}
 use Rattle.rules.specs.Rows.{_if_, first}
 use Rattle.rules.specs.Track.{planAt}
-use Rattle.rules.specs.Line.{Around, aroundTrain, around, trainAt, putTrain, putBox}
+use Rattle.rules.specs.declared.Around.{Around}
+use Rattle.rules.specs.Line.{aroundTrain, around, trainAt, putTrain, putBox}
 use Rattle.rules.specs.Steps.{Step, withMessage, recorded, addressRows, entered, cleared}
 use Rattle.rules.specs.Record.{answerCode}
 use Rattle.rules.specs.Safety.{TrainOf}

@@ -54,6 +54,10 @@ pub mod Demand3
 pub mod Checked
 -- What else holds after every list of steps.
 pub mod Consequences
+-- Steps in a list of bytes, their answers, and runs of a file and steps.
+pub mod Runs
+-- How much of its file and its input the program has to read, and how much room it needs.
+pub mod Enough
 -- Opens all definitions, for proofs that compute.
 pub mod Computing
 -- The cases of 01.

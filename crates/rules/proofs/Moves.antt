@@ -14,7 +14,8 @@ use Rattle.rules.specs.declared.Train.{Train}
 use Rattle.rules.specs.declared.Line.{Line}
 use Rattle.rules.specs.declared.Outcome.{Outcome}
 use Rattle.rules.specs.Rows.{first}
-use Rattle.rules.specs.Line.{Around, boxAt, trainAt, putTrain, setHolder}
+use Rattle.rules.specs.declared.Around.{Around}
+use Rattle.rules.specs.Line.{boxAt, trainAt, putTrain, setHolder}
 use Rattle.rules.specs.Steps.{Step, boxRows, granted, entered, sensed, cleared, released}
 use Rattle.rules.specs.History.{Event, _answered_, Place, accepted, moved}
 use Rattle.rules.specs.Safety.{TrainOf, Fixed, placeIn, placeOf}

@@ -19,7 +19,8 @@ use Rattle.rules.specs.declared.Message.the-variants.{Idle, Sent, Answer
 use Rattle.rules.specs.declared.Train.{Train}
 use Rattle.rules.specs.declared.Line.{Line}
 use Rattle.rules.specs.Rows.{nth, setNth, listOf}
-use Rattle.rules.specs.Line.{Around, noTrain, aroundTrain, around, boxAt, trainAt, putTrain, putBox}
+use Rattle.rules.specs.declared.Around.{Around}
+use Rattle.rules.specs.Line.{noTrain, aroundTrain, around, boxAt, trainAt, putTrain, putBox}
 use Rattle.rules.specs.Steps.{withMessage, withHolding, heard, entered, cleared}
 use Rattle.rules.specs.Invariant.{settledBy, settledTrain, settled, Invariant}
 use Rattle.rules.proofs.Tests.{cond-each}

@@ -14,7 +14,8 @@ use Rattle.rules.specs.declared.Train.{Train}
 use Rattle.rules.specs.declared.Line.{Line}
 use Rattle.rules.specs.Rows.{first}
 use Rattle.rules.specs.Track.{planAt}
-use Rattle.rules.specs.Line.{Around, aroundTrain, around, boxAt, trainAt, requestBox}
+use Rattle.rules.specs.declared.Around.{Around}
+use Rattle.rules.specs.Line.{aroundTrain, around, boxAt, trainAt, requestBox}
 use Rattle.rules.specs.Steps.{Step, addressed, recorded, addressRows, requestRows, boxRows, enterRows, clearRows, withMessage}
 use Rattle.rules.specs.Safety.{TrainOf}
 use Rattle.rules.specs.Invariant.{settled, Open, sent, answered, Invariant}

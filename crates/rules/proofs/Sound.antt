@@ -15,7 +15,8 @@ use Rattle.rules.specs.declared.Train.{Train}
 use Rattle.rules.specs.declared.Line.{Line}
 use Rattle.rules.specs.Rows.{first}
 use Rattle.rules.specs.Track.{planAt, positionFits}
-use Rattle.rules.specs.Line.{Around, aroundTrain, around, boxAt, trainAt}
+use Rattle.rules.specs.declared.Around.{Around}
+use Rattle.rules.specs.Line.{aroundTrain, around, boxAt, trainAt}
 use Rattle.rules.specs.Steps.{mostCovered, addressRows}
 use Rattle.rules.specs.Record.{answerCode, messageFault, trainFault, switchBoxFault, recordFault}
 use Rattle.rules.specs.Safety.{TrainOf}

@@ -13,7 +13,8 @@ use Rattle.rules.specs.declared.Request.the-variants.{Reserve, Lock}
 use Rattle.rules.specs.declared.Train.{Train}
 use Rattle.rules.specs.Rows.{_if_, first}
 use Rattle.rules.specs.Track.{planAt, isPoint}
-use Rattle.rules.specs.Line.{Around, aroundTrain, requestBox, setHolder}
+use Rattle.rules.specs.declared.Around.{Around}
+use Rattle.rules.specs.Line.{aroundTrain, requestBox, setHolder}
 use Rattle.rules.specs.Steps.{addressRows, boxRows, granted, sensed, released}
 use Rattle.rules.specs.Record.{answerCode}
 use Rattle.rules.proofs.Tests.{cond-each}

@@ -18,7 +18,8 @@ use Rattle.rules.specs.declared.Line.{Line}
 use Rattle.rules.specs.declared.Outcome.{Outcome}
 use Rattle.rules.specs.Rows.{Row, _if_, first, outside}
 use Rattle.rules.specs.Track.{planAt}
-use Rattle.rules.specs.Line.{Around, around, boxAt, trainAt, putTrain, requestKind, requestBox}
+use Rattle.rules.specs.declared.Around.{Around}
+use Rattle.rules.specs.Line.{around, boxAt, trainAt, putTrain, requestKind, requestBox}
 use Rattle.rules.specs.Steps.{Step, addressRows, Effect, refused, trainAndBox, apply, unless, forTrain, send, reply, boxAnswers, trainHears, enter, clear, plainEffect, effect, step, requestRows, boxRows, enterRows, clearRows, withMessage, withHolding, granted, heard, entered, sensed, cleared, released}
 use Rattle.rules.specs.Safety.{TrainOf}
 use Rattle.rules.proofs.Tests.{facts, cond-each, first-other, first-none, outside-false-iff}

@@ -12,7 +12,8 @@ use Rattle.rules.specs.declared.Message.{Message}
 use Rattle.rules.specs.declared.Message.the-variants.{Idle, Sent, Answered}
 use Rattle.rules.specs.declared.Train.{Train}
 use Rattle.rules.specs.Rows.{first}
-use Rattle.rules.specs.Line.{Around, aroundTrain}
+use Rattle.rules.specs.declared.Around.{Around}
+use Rattle.rules.specs.Line.{aroundTrain}
 use Rattle.rules.specs.Steps.{isOpen, addressed, recorded, atEnd, addressRows, requestRows, enterRows, clearRows, another}
 use Rattle.rules.specs.Invariant.{Open, sent, answered}
 use Rattle.rules.proofs.Tests.{facts, implies-iff, first-none, first-zero-iff}

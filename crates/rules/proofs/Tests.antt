@@ -92,6 +92,10 @@ module _ {ℓ} {A : Type ℓ} where
   cond-same true x = refl
   cond-same false x = refl
 
+  pub cond-alike : (b : Bool) (x y z : A) → (b ≡ true → x ≡ y) → cond b x z ≡ cond b y z
+  cond-alike true x y z h = h refl
+  cond-alike false x y z h = refl
+
   pub cond-each : (P : A → Type 0) (b : Bool) (x y : A) → (b ≡ true → P x) → (b ≡ false → P y) → P (cond b x y)
   cond-each P true x y h k = h refl
   cond-each P false x y h k = k refl

@@ -13,10 +13,11 @@ use Rattle.rules.specs.File.{fileCode, decode, encode, routeCode, routeP
 use Rattle.rules.specs.Line.{startLine, around, boxAt, trainAt, messageState, messageKind, messageBox, messageCode}
 use Rattle.rules.specs.Steps.{Step}
 use Rattle.rules.specs.Record.{checkedStep}
-use Rattle.rules.specs.History.{Event, lineAfter, events}
+use Rattle.rules.specs.History.{lineAfter, events}
 use Rattle.rules.specs.Atomic.{atomicStep, stopped}
 use Rattle.rules.specs.Safety.{reached, history, whereIs, ordered, atomic}
-use Rattle.rules.specs.Printout.{bytesOf, decimal, mostSteps, stepsIn, printout, printoutUpTo, tailOf, bit}
+use Rattle.rules.specs.Run.{stepCount, answersOf}
+use Rattle.rules.specs.Printout.{bytesOf, decimal, mostSteps, takenOf, printout, printoutUpTo, tailOf, bit}
 
 -- What is asked of the definitions about a file, or about a file and a list of steps.
 pub data Question : Type 0 where
@@ -59,10 +60,6 @@ pub data Question : Type 0 where
   -- The route of a train as a part of the file, after its code.
   routeOf : List ℕ → ℕ → Question
 
-unfoldable pub answers : List Event → List ℕ
-answers [] = []
-answers (e ∷ rest) = e .answer ∷ answers rest
-
 unfoldable pub stepBytes : List Step → List ℕ
 stepBytes [] = []
 stepBytes (s ∷ rest) = s .kind ∷ s .train ∷ s .box ∷ stepBytes rest
@@ -94,13 +91,13 @@ unfoldable pub found : Question → List ℕ
 found (codeOf bytes) = fileCode bytes ∷ []
 found (joinedAt bytes b x s z) = bit (joins (planAt (decode bytes) b) x s z) ∷ []
 found (rewritten bytes) = encode (decode bytes)
-found (answersTo bytes steps) = answers (history (decode bytes) steps)
+found (answersTo bytes steps) = answersOf (history (decode bytes) steps)
 found (trainAfter bytes steps i) =
     let l = reached (decode bytes) steps in
     around l i .front ∷ tailOf l i ∷ []
 found (boxAfter bytes steps b) = boxNumbers (boxAt (reached (decode bytes) steps) b)
 found (decimalOf x) = decimal x
-found (stepsTaken input) = length (stepsIn mostSteps input) ∷ []
+found (stepsTaken input) = stepCount (takenOf mostSteps input) ∷ []
 found (printed bytes input) = printout bytes input
 found (printedUpTo most bytes input) = printoutUpTo most bytes input
 found (writtenTo t buffer) = writeCode t buffer ∷ written t buffer
@@ -125,7 +122,7 @@ found (orderOf bytes steps) =
 found (atomicAnswersTo bytes steps) =
     let l = startLine (decode bytes) in
     let es = events atomicStep l steps in
-    bit (stopped es) ∷ answers es ++ lineNumbers (lineAfter atomicStep l steps)
+    bit (stopped es) ∷ answersOf es ++ lineNumbers (lineAfter atomicStep l steps)
 found (atomicBoxAfter bytes steps b) = boxNumbers (boxAt (atomic (decode bytes) steps) b)
 found (routeOf bytes i) = routeCode bytes i ∷ routePart bytes i
 

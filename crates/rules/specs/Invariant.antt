@@ -14,7 +14,8 @@ use Rattle.rules.specs.declared.Train.{Train}
 use Rattle.rules.specs.declared.Line.{Line}
 use Rattle.rules.specs.Rows.{listOf}
 use Rattle.rules.specs.Track.{planAt, routeAt, farBox, nearBox, isPoint, joins}
-use Rattle.rules.specs.Line.{Around, aroundTrain, around, boxAt, trainAt, holderOf}
+use Rattle.rules.specs.declared.Around.{Around}
+use Rattle.rules.specs.Line.{aroundTrain, around, boxAt, trainAt, holderOf}
 use Rattle.rules.specs.Steps.{recorded, withMessage, heard}
 use Rattle.rules.specs.Record.{recordFault}
 use Rattle.rules.specs.Safety.{TrainOf, Covers, Crosses, placeIn, placeOf}

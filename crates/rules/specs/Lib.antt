@@ -23,6 +23,8 @@ pub mod Safety
 pub mod Invariant
 -- What else holds after every list of steps.
 pub mod Consequences
+-- A run of a table file and steps.
+pub mod Run
 -- What the program prints.
 pub mod Printout
 -- The cases of 01, and one for each code and each condition.

@@ -13,6 +13,7 @@ use Rattle.rules.specs.declared.Message.{Message}
 use Rattle.rules.specs.declared.Message.the-variants.{Idle, Sent, Answered}
 use Rattle.rules.specs.declared.Train.{Train}
 use Rattle.rules.specs.declared.Line.{Line}
+use Rattle.rules.specs.declared.Around.{Around}
 use Rattle.rules.specs.declared.Outcome.{Outcome}
 use Rattle.rules.specs.Rows.{nth, setNth, listOf, filled}
 use Rattle.rules.specs.Track.{noSegment, noBoxPlan, noTrainPlan, planAt, trainPlanAt, routeAt, farBox, nearBox, isPoint}
@@ -177,23 +178,8 @@ read bytes =
     let c = fileCode bytes in
     cond (eqb c 0) (record { code = 0; line = startLine (decode bytes) }) (record { code = c; line = emptyLine })
 
--- What stands around a train: its number; the segments at its front, next after it, at its tail and next after the tail
--- (the front again where two are covered); the box ahead of the front and whether it is a point; the boxes at the near and
--- the far end of next; and the box between the tail and the segment after it, which is passed when the tail is cleared.
--- On a route that follows, the near end of next is at the box ahead. Where there is no next, code 16 comes before its use.
-pub record Around : Type 0 where
-  pub number : ℕ
-  pub front : ℕ
-  pub next : ℕ
-  pub tail : ℕ
-  pub second : ℕ
-  pub ahead : ℕ
-  pub point : Bool
-  pub nearEnd : ℕ
-  pub farEnd : ℕ
-  pub passed : ℕ
-
--- What stands around train i, by its record r and its route in `routes`; and around train i of a line.
+-- What stands around train i, by its record r and its route in `routes`; and around train i of a line. On a route that follows,
+-- the near end of next is at the box ahead. Where there is no next, code 16 comes before its use.
 unfoldable pub aroundTrain : Table → List ℕ → ℕ → Train → Around
 aroundTrain t routes i r =
     let segment : ℕ → ℕ = λ p. routeAt routes i p in

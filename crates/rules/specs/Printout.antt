@@ -1,16 +1,19 @@
 -- What the program `line` prints (01, "Table S and its printout"), as bytes, from the bytes of its file and of its input.
-use Prim.Native.Nat.{ℕ, zero, suc, _+_, _*_, _/_, _%_}
+use Prim.Native.Nat.{ℕ, zero, suc, _+_, _-_, _*_, _/_, _%_, _<_}
 use Prim.Native.Char.{code}
 use Prim.Native.String.{String}
-use mathlib.Core.Bool.{Bool, true, false, cond}
+use mathlib.Core.Path.{_≡_}
+use mathlib.Core.Bool.{Bool, true, false, cond, _||_}
 use mathlib.Core.List.{List, [], _∷_, _++_}
 use lib.Dec.{eqb, leb, ltb}
-use lib.ListN.{length, getD, drop}
+use lib.ListN.{length, getD, take, drop}
 use Rattle.rules.specs.declared.Line.{Line}
-use Rattle.rules.specs.Rows.{joinOf}
+use Rattle.rules.specs.Rows.{nth, joinOf, _if_, first}
 use Rattle.rules.specs.Line.{read, boxAt, trainAt, around}
-use Rattle.rules.specs.Steps.{Step, step}
-use Rattle.rules.specs.History.{Event, lineAfter, events}
+use Rattle.rules.specs.Steps.{step}
+use Rattle.rules.specs.Record.{checkedStep}
+use Rattle.rules.specs.History.{lineAfter}
+use Rattle.rules.specs.Run.{wholeSteps, stepCount, answersFrom, answered}
 
 -- The bytes of a text of ASCII characters.
 abbrev pub bytesOf : String → List ℕ
@@ -35,27 +38,13 @@ textLine (w ∷ x ∷ rest) = w ++ (32 ∷ textLine (x ∷ rest))
 abbrev pub mostSteps : ℕ
 mostSteps = 65535
 
--- The whole steps at the front of the input, at most so many.
-unfoldable pub stepsIn : ℕ → List ℕ → List Step
-stepsIn zero input = []
-stepsIn (suc n) [] = []
-stepsIn (suc n) (x ∷ []) = []
-stepsIn (suc n) (x ∷ y ∷ []) = []
-stepsIn (suc n) (x ∷ y ∷ z ∷ rest) = record { kind = x; train = y; box = z } ∷ stepsIn n rest
-
 -- A step line: count, kind, train, code.
 unfoldable pub stepLine : ℕ → ℕ → ℕ → ℕ → List ℕ
 stepLine count kind train code = textLine (decimal count ∷ decimal kind ∷ decimal train ∷ decimal code ∷ [])
 
--- The lines of events, the first of them with this count.
-unfoldable pub stepLines : ℕ → List Event → List ℕ
-stepLines count [] = []
-stepLines count (e ∷ rest) = stepLine count (e .step .kind) (e .step .train) (e .answer) ++ stepLines (count + 1) rest
-
--- A last step of one or two bytes: code 13, and 0 for a missing train byte.
-unfoldable pub partialLine : ℕ → List ℕ → List ℕ
-partialLine count [] = []
-partialLine count (x ∷ rest) = stepLine count x (getD rest 0 0) 13
+-- The line of step j, by the bytes of all steps and their answers. Of a last step of one or two bytes, a missing byte is 0.
+unfoldable pub stepLineOf : List ℕ → List ℕ → ℕ → List ℕ
+stepLineOf bytes answers j = stepLine j (nth bytes (3 * j - 2) 0) (nth bytes (3 * j - 1) 0) (nth answers j 0)
 
 -- A train's tail, or 0 where it covers its front alone.
 unfoldable pub tailOf : Line → ℕ → ℕ
@@ -83,17 +72,17 @@ unfoldable pub moreLine : List ℕ → List ℕ
 moreLine [] = []
 moreLine (x ∷ rest) = textLine (bytesOf "more" ∷ [])
 
--- The text of a run of at most so many steps: step lines, then a last step that is not whole, then trains and boxes; where
--- no more steps are taken, what is left of the input only adds the last line.
+-- The bytes of the steps that are taken, at most so many.
+unfoldable pub takenOf : ℕ → List ℕ → List ℕ
+takenOf most input = take (3 * most) input
+
+-- The text of a run of at most so many steps: step lines, trains and boxes; bytes beyond these steps only add the last line.
 unfoldable pub runText : ℕ → Line → List ℕ → List ℕ
 runText most l input =
-    let steps = stepsIn most input in
-    let left = drop (3 * length steps) input in
-    let full = eqb (length steps) most in
-    stepLines 1 (events step l steps)
-    ++ cond full [] (partialLine (length steps + 1) left)
-    ++ lineText (lineAfter step l steps)
-    ++ cond full (moreLine left) []
+    let taken = takenOf most input in
+    joinOf (stepCount taken) (stepLineOf taken (answersFrom step l taken))
+    ++ lineText (lineAfter step l (wholeSteps taken))
+    ++ moreLine (drop (3 * most) input)
 
 -- What is printed where at most so many steps are taken, and what the program prints.
 unfoldable pub printoutUpTo : ℕ → List ℕ → List ℕ → List ℕ
@@ -103,3 +92,46 @@ printoutUpTo most file input =
 
 unfoldable pub printout : List ℕ → List ℕ → List ℕ
 printout file input = printoutUpTo mostSteps file input
+
+-- The most bytes of its file that the program reads: one more than the longest file that code 5 lets pass has, which is a head of
+-- 8 bytes, 96 segments of 2, 96 boxes of 5, and 16 trains of 2 and a route of 255.
+abbrev pub mostFile : ℕ
+mostFile = 4793
+
+-- The most bytes of its input: three for each step that is taken, and one, which makes `more`.
+abbrev pub mostInput : ℕ
+mostInput = 196606
+
+-- The numbers of a list are bytes.
+abbrev pub AllBytes : List ℕ → Type 0
+AllBytes l = (i : ℕ) → getD l i 0 < 256
+
+-- That is enough: for every file of bytes and every input, what lies beyond changes nothing in what is printed.
+abbrev pub Enough : Type 0
+Enough = (file input : List ℕ) → AllBytes file → printout (take mostFile file) (take mostInput input) ≡ printout file input
+
+-- The room that every text of so many steps fits into: lines of at most 18 bytes, for the steps, 16 trains, 96 boxes and the
+-- last line.
+unfoldable pub textRoom : List ℕ → ℕ
+textRoom input = 18 * (stepCount (takenOf mostSteps input) + 113)
+
+-- The room for every text.
+abbrev pub mostText : ℕ
+mostText = 1181664
+
+-- The text in a lent buffer, and the answers in another: 26 where one of them is too short, and both as they were. Else the
+-- text stands at the front of its buffer and the rest stays, and the answers' buffer is as after a run.
+unfoldable pub printCode : List ℕ → List ℕ → List ℕ → ℕ
+printCode input answers text =
+    first (26 if (ltb (length answers) (stepCount (takenOf mostSteps input)) || ltb (length text) (textRoom input)) ∷ [])
+
+unfoldable pub printLength : List ℕ → List ℕ → List ℕ → List ℕ → ℕ
+printLength file input answers text = cond (eqb (printCode input answers text) 0) (length (printout file input)) 0
+
+unfoldable pub printedText : List ℕ → List ℕ → List ℕ → List ℕ → List ℕ
+printedText file input answers text =
+    cond (eqb (printCode input answers text) 0) (printout file input ++ drop (length (printout file input)) text) text
+
+unfoldable pub printedAnswers : List ℕ → List ℕ → List ℕ → List ℕ → List ℕ
+printedAnswers file input answers text =
+    cond (eqb (printCode input answers text) 0) (answered checkedStep file (takenOf mostSteps input) answers) answers

@@ -12,7 +12,8 @@ use Rattle.rules.specs.declared.Outcome.{Outcome}
 use Rattle.rules.specs.Rows.{first, anyOf}
 use Rattle.rules.specs.Track.{planAt, positionFits}
 use Rattle.rules.specs.Placing.{routeShapeFault, routeFault, tableCode}
-use Rattle.rules.specs.Line.{Around, around, boxAt, trainAt}
+use Rattle.rules.specs.declared.Around.{Around}
+use Rattle.rules.specs.Line.{around, boxAt, trainAt}
 use Rattle.rules.specs.Steps.{Step, addressRows, mostCovered, step}
 
 -- The codes that a box can give in answer to a request, 0 among them.

@@ -15,7 +15,8 @@ use Rattle.rules.specs.declared.Line.{Line}
 use Rattle.rules.specs.declared.Outcome.{Outcome}
 use Rattle.rules.specs.Rows.{Row, _if_, first, outside}
 use Rattle.rules.specs.Track.{planAt, joins}
-use Rattle.rules.specs.Line.{Around, around, boxAt, trainAt, putTrain, putBox, holderOf, setHolder, requestBox}
+use Rattle.rules.specs.declared.Around.{Around}
+use Rattle.rules.specs.Line.{around, boxAt, trainAt, putTrain, putBox, holderOf, setHolder, requestBox}
 
 -- A step: three bytes.
 pub record Step : Type 0 where

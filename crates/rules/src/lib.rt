@@ -82,6 +82,22 @@ pub struct Line {
     pub routes: [u8; 1024],
 }
 
+// What stands around a train: its number; the segments at its front, next after it, at its tail and next after the tail (the
+// front again where two are covered); the box ahead of the front and whether it is a point; the boxes at the near and the far
+// end of next; and the box between the tail and the segment after it, which is passed when the tail is cleared.
+pub struct Around {
+    pub number: u8,
+    pub front: u8,
+    pub next: u8,
+    pub tail: u8,
+    pub second: u8,
+    pub ahead: u8,
+    pub point: bool,
+    pub nearEnd: u8,
+    pub farEnd: u8,
+    pub passed: u8,
+}
+
 // What a call on a line ends in: a code, and the line after it.
 pub struct Outcome {
     pub code: u8,

@@ -151,13 +151,23 @@ listed-both t s e f = search tests depth 8
 pub far-column : (t : Table) (d : ℕ) → length (t .segments) ≡ 96 → (x : ℕ) → getD (column (farBox t d)) x 0 ≡ farBox t d x
 far-column t d e = column-all (farBox t d) (λ x l. far-beyond t d e x (omega arith))
 
+-- The columns give the A end and the B end of any segment number.
+module _ (t : Table) (e : length (t .segments) ≡ 96) where
+  pub a-column : (x : ℕ) → getD (column (farBox t 1)) x 0 ≡ endA t x
+  unfolding farBox
+  a-column = far-column t 1 e
+
+  pub b-column : (x : ℕ) → getD (column (farBox t 0)) x 0 ≡ endB t x
+  unfolding farBox
+  b-column = far-column t 0 e
+
 same-ends : (a b x y : ℕ) → a ≡ x → b ≡ y → _≡_ {A = Segment} (record { a = a; b = b }) (record { a = x; b = y })
 same-ends a b x y e f = cc
 
 ends-found : (t : Table) (a b : List ℕ) (s : ℕ) → length (t .segments) ≡ 96 → a ≡ column (farBox t 1) → b ≡ column (farBox t 0) → endsIn a b s ≡ segmentAt t s
-unfolding farBox endA endB
+unfolding endA endB
 ends-found t a b s e f g =
-    same-ends _ _ _ _ (ap (λ (l : List ℕ). getD l s 0) f ∙ far-column t 1 e s) (ap (λ (l : List ℕ). getD l s 0) g ∙ far-column t 0 e s)
+    same-ends _ _ _ _ (ap (λ (l : List ℕ). getD l s 0) f ∙ a-column t e s) (ap (λ (l : List ℕ). getD l s 0) g ∙ b-column t e s)
 
 -- What code 8 says of the box at index i, by the ends found in the columns.
 pub box-answer : (t : Table) (i : ℕ) (a b : List ℕ) (stem left right : Segment) (r v : Bool) → length (t .segments) ≡ 96 → a ≡ column (farBox t 1) → b ≡ column (farBox t 0) → stem ≡ endsIn a b (getD (t .boxes) i noBoxPlan .stem) → left ≡ endsIn a b (getD (t .boxes) i noBoxPlan .left) → right ≡ endsIn a b (getD (t .boxes) i noBoxPlan .right) → r ≡ boxFaultOn (i + 1) (getD (t .boxes) i noBoxPlan) stem left right → r ≡ v → boxFault t (i + 1) ≡ v

@@ -1,104 +1,90 @@
 -- What the conditions of `rules` say of routes, in the words of the functions that test them.
 use Prim.Native.Nat.{ℕ, zero, suc, _+_, _-_, _*_, _≤_, _<_}
-use mathlib.Core.Path.{_≡_, sym, _∙_}
+use mathlib.Core.Path.{_≡_, refl, sym, _∙_}
 use mathlib.Core.Bool.{Bool, true, false, not, _&&_, _||_}
 use mathlib.Core.List.{List}
-use native.Mathlib.Decide.{decLt}
-use native.Mathlib.Numerals.{add-one}
+use native.Mathlib.Decide.{ℕ-discrete}
 use native.Mathlib.Omega.{arith}
-use borrow.Author.Tests.{le-ltb, eq-eqb, ne-eqb, ltb-false}
+use borrow.Author.Tests.{eq-eqb, ne-eqb}
 use lib.Dec.{eqb, ltb}
 use lib.ListN.{length, getD}
-use Rattle.rules.proofs.Tests.{tests, or-false-left, or-false-right}
-use Rattle.rules.proofs.Rows.{any-false-at, any-same, nth-at, route-at, route-first}
-use Rattle.rules.specs.declared.TrainPlan.{TrainPlan}
+use Rattle.rules.proofs.Tests.{tests, outside-false-iff}
+use Rattle.rules.proofs.Rows.{none-found, any-same, nth-at, route-at, route-first}
 use Rattle.rules.specs.declared.Table.{Table}
-use Rattle.rules.specs.Rows.{outside, anyOf, nth}
+use Rattle.rules.specs.Rows.{outside, anyOf}
 use Rattle.rules.specs.Track.{noTrainPlan, trainPlanAt, routeAt, nearBox, farBox, follows}
-use Rattle.rules.specs.Placing.{routeShapeFault, routePlaceFault, routeFault, startFault}
-use Rattle.layout.specs.Ends.{column, placeBreaks, sharesStart}
-use Rattle.layout.proofs.Laws.{far-column}
+use Rattle.rules.specs.Placing.{routePlaceFault, routeFault, startFault}
+use Rattle.layout.specs.Ends.{column, placeBreaks, routeFaultIn, sharesStart}
+use Rattle.layout.proofs.Laws.{a-column, b-column}
 
--- The segment at place p of the route of the train with index i.
-route-place : (routes : List ℕ) (i p : ℕ) → 1 ≤ p → p ≤ 64 → routeAt routes (i + 1) p ≡ getD routes (64 * i + p - 1) 0
-route-place routes i zero l h = absurd (omega arith)
-route-place routes i (suc p) l h =
-    let e : 64 * i + suc p - 1 ≡ 64 * i + p = omega arith in
-    rw e (rw (add-one p) at (route-at routes i p (omega arith)))
+-- The segment at the place with index p of train i's route.
+place-at : (routes : List ℕ) (i p : ℕ) → 1 ≤ i → p < 64 → routeAt routes i (p + 1) ≡ getD routes (64 * (i - 1) + p) 0
+place-at routes i p l h = let e : i - 1 + 1 ≡ i = omega arith in rw e at (route-at routes (i - 1) p h)
 
--- Code 11 at the place with index p: an outside segment; one that does not follow the one before; and neither.
-module _ (n : ℕ) (near far routes : List ℕ) (start p : ℕ) where
-  breaks-at : placeBreaks n near far routes start (p + 1) ≡ (outside n (getD routes (start + p) 0) || (ltb 1 (p + 1) && not (eqb (getD far (getD routes (start + p - 1) 0) 0) (getD near (getD routes (start + p) 0) 0))))
+-- Code 11 of a route with more than 64 places: there is no place 65.
+place-past : (routes : List ℕ) (i : ℕ) → routeAt routes i 65 ≡ 0
+unfolding routeAt
+place-past routes zero = refl
+place-past routes (suc i) = refl
+
+pub breaks-past : (n : ℕ) (near far routes : List ℕ) (i r : ℕ) → 64 < r → true ≡ anyOf r (placeBreaks n near far routes i)
+unfolding placeBreaks outside
+breaks-past n near far routes i r l =
+    none-found r (placeBreaks n near far routes i) 64 l (rw (place-past routes i) (search tests))
+
+-- Code 11 at the place with index p of train i's route: an outside segment; one that does not follow the one before; and neither.
+module _ (n : ℕ) (near far routes : List ℕ) (i p : ℕ) (low : 1 ≤ i) (high : p < 64) where
+  pub breaks-outside : outside n (getD routes (64 * (i - 1) + p) 0) ≡ true → placeBreaks n near far routes i (p + 1) ≡ true
   unfolding placeBreaks
-  breaks-at =
-      let e : start + (p + 1) - 1 ≡ start + p = omega arith in
-      let f : start + (p + 1) - 2 ≡ start + p - 1 = omega arith in
-      rw (e, f)
+  breaks-outside e = rw (place-at routes i p low high) (search tests)
 
-  pub breaks-outside : outside n (getD routes (start + p) 0) ≡ true → placeBreaks n near far routes start (p + 1) ≡ true
-  breaks-outside e = rw breaks-at (search tests)
+  pub whole-first : outside n (getD routes (64 * (i - 1) + p) 0) ≡ false → p ≤ 0 → placeBreaks n near far routes i (p + 1) ≡ false
+  unfolding placeBreaks
+  whole-first e l = let h : p + 1 ≤ 1 = omega arith in rw (place-at routes i p low high) (search tests)
 
-  pub breaks-apart : 0 < p → not (eqb (getD far (getD routes (start + p - 1) 0) 0) (getD near (getD routes (start + p) 0) 0)) ≡ true → placeBreaks n near far routes start (p + 1) ≡ true
-  breaks-apart l e = let h : 1 < p + 1 = omega arith in rw breaks-at (search tests)
+  breaks-next : 0 < p → placeBreaks n near far routes i (p + 1) ≡ (outside n (getD routes (64 * (i - 1) + p) 0) || (ltb 1 (p + 1) && not (eqb (getD far (getD routes (64 * (i - 1) + p - 1) 0) 0) (getD near (getD routes (64 * (i - 1) + p) 0) 0))))
+  unfolding placeBreaks
+  breaks-next l =
+      let e : p + 1 - 1 ≡ p - 1 + 1 = omega arith in
+      let f : 64 * (i - 1) + (p - 1) ≡ 64 * (i - 1) + p - 1 = omega arith in
+      rw (place-at routes i p low high, e, place-at routes i (p - 1) low (omega arith), f)
 
-  pub whole-first : outside n (getD routes (start + p) 0) ≡ false → p ≤ 0 → placeBreaks n near far routes start (p + 1) ≡ false
-  whole-first e l = let h : p + 1 ≤ 1 = omega arith in rw breaks-at (search tests)
+  pub breaks-apart : 0 < p → not (eqb (getD far (getD routes (64 * (i - 1) + p - 1) 0) 0) (getD near (getD routes (64 * (i - 1) + p) 0) 0)) ≡ true → placeBreaks n near far routes i (p + 1) ≡ true
+  breaks-apart l e = let h : 1 < p + 1 = omega arith in rw (breaks-next l) (search tests)
 
-  pub whole-next : outside n (getD routes (start + p) 0) ≡ false → not (eqb (getD far (getD routes (start + p - 1) 0) 0) (getD near (getD routes (start + p) 0) 0)) ≡ false → placeBreaks n near far routes start (p + 1) ≡ false
-  whole-next e f = rw breaks-at (search tests)
+  pub whole-next : outside n (getD routes (64 * (i - 1) + p) 0) ≡ false → 0 < p → not (eqb (getD far (getD routes (64 * (i - 1) + p - 1) 0) 0) (getD near (getD routes (64 * (i - 1) + p) 0) 0)) ≡ false → placeBreaks n near far routes i (p + 1) ≡ false
+  whole-next e l f = rw (breaks-next l) (search tests)
 
--- Code 11 of the train with index i, where near and far list the boxes at the ends of segments in direction d.
-module _ (t : Table) (d i : ℕ) (near far : List ℕ) (nears : (x : ℕ) → getD near x 0 ≡ nearBox t d x) (fars : (x : ℕ) → getD far x 0 ≡ farBox t d x) where
-  place-same : (p : ℕ) → 1 ≤ p → p ≤ 64 → placeBreaks (t .n) near far (t .routes) (64 * i) p ≡ routePlaceFault t (t .routes) (i + 1) d p
+-- Code 11 of train i's route in direction d, where near and far list the boxes at the ends of segments in that direction.
+module _ (t : Table) (routes near far : List ℕ) (i d r : ℕ) (nears : (x : ℕ) → getD near x 0 ≡ nearBox t d x) (fars : (x : ℕ) → getD far x 0 ≡ farBox t d x) where
+  place-same : (p : ℕ) → placeBreaks (t .n) near far routes i p ≡ routePlaceFault t routes i d p
   unfolding placeBreaks routePlaceFault follows
-  place-same p l h =
-      elim (decLt 1 p) [
-        | yes k ↦
-            let e : 64 * i + (p - 1) - 1 ≡ 64 * i + p - 2 = omega arith in
-            let b : routeAt (t .routes) (i + 1) (p - 1) ≡ getD (t .routes) (64 * i + p - 2) 0 =
-            rw e at (route-place (t .routes) i (p - 1) (omega arith) (omega arith)) in
-            rw (route-place (t .routes) i p l h, b, fars, nears)
-        | no k ↦ rw (route-place (t .routes) i p l h, le-ltb 1 p (omega arith))
+  place-same p = rw (fars, nears)
+
+  route-same : anyOf r (placeBreaks (t .n) near far routes i) ≡ routeFault t routes i d r
+  unfolding routeFault
+  route-same = any-same (placeBreaks (t .n) near far routes i) (routePlaceFault t routes i d) r (λ p l h. place-same p)
+
+-- Code 11 of train i's route by the columns of A ends and of B ends.
+module _ (t : Table) (a b routes : List ℕ) (i d r : ℕ) (sized : length (t .segments) ≡ 96) (ends-a : a ≡ column (farBox t 1)) (ends-b : b ≡ column (farBox t 0)) (low : 1 ≤ i) (high : i ≤ 16) where
+  pub route-in : routeFaultIn (t .n) a b routes i d r ≡ routeFault t routes i d r
+  unfolding routeFaultIn nearBox farBox
+  route-in =
+      let there : outside 16 i ≡ false = outside-false-iff 16 i .1 (low, high) in
+      elim (ℕ-discrete d 0) [
+        | yes e ↦
+            let to-b = eq-eqb d 0 e in
+            rw (there, to-b) (route-same t routes a b i d r (λ x. rw (to-b, ends-a) (a-column t sized x)) (λ x. rw (to-b, ends-b) (b-column t sized x)))
+        | no e ↦
+            let to-a = ne-eqb d 0 e in
+            rw (there, to-a) (route-same t routes b a i d r (λ x. rw (to-a, ends-b) (b-column t sized x)) (λ x. rw (to-a, ends-a) (a-column t sized x)))
       ]
 
-  route-same : (r : ℕ) → r ≤ 64 → anyOf r (placeBreaks (t .n) near far (t .routes) (64 * i)) ≡ routeFault t (t .routes) (i + 1) d r
-  unfolding routeFault
-  route-same r h =
-      any-same (placeBreaks (t .n) near far (t .routes) (64 * i)) (routePlaceFault t (t .routes) (i + 1) d) r
-      (λ p a b. place-same p a (omega arith))
-
--- Where code 10 finds nothing, the train with index i has direction 0 or 1 and at most 64 places.
-pub record Shaped (p : TrainPlan) : Type 0 where
-  pub direction : p .direction ≤ 1
-  pub length : p .length ≤ 64
-
-shape-fine : (p : TrainPlan) → routeShapeFault (p .direction) (p .length) ≡ false → Shaped p
-unfolding routeShapeFault outside
-shape-fine p e =
-    let other = ltb 1 (p .direction) in
-    let empty = eqb (p .length) 0 in
-    let long = ltb 64 (p .length) in
-    record {
-      direction = ltb-false 1 (p .direction) (or-false-left other (empty || long) e);
-      length = ltb-false 64 (p .length) (or-false-right empty long (or-false-right other (empty || long) e));
-    }
-
-pub shaped : (t : Table) (i : ℕ) → anyOf (t .k) (λ j. routeShapeFault (trainPlanAt t j .direction) (trainPlanAt t j .length)) ≡ false → i < t .k → Shaped (getD (t .trains) i noTrainPlan)
-unfolding trainPlanAt nth
-shaped t i e l = shape-fine (getD (t .trains) i noTrainPlan) (any-false-at _ (t .k) (suc i) e (omega arith) (omega arith))
-
--- Code 11 of that train, which goes to B or to A; r is what a function answered for it.
-module _ (t : Table) (i : ℕ) (a b : List ℕ) (r : Bool) (sized : length (t .segments) ≡ 96) (ends-a : a ≡ column (farBox t 1)) (ends-b : b ≡ column (farBox t 0)) (fine : Shaped (getD (t .trains) i noTrainPlan)) where
-  pub route-to-b : getD (t .trains) i noTrainPlan .direction ≡ 0 → r ≡ anyOf (getD (t .trains) i noTrainPlan .length) (placeBreaks (t .n) a b (t .routes) (64 * i)) → routeFault t (t .routes) (i + 1) (trainPlanAt t (i + 1) .direction) (trainPlanAt t (i + 1) .length) ≡ r
-  unfolding trainPlanAt nearBox farBox
-  route-to-b z e =
-      rw (nth-at, z) (sym (e ∙ route-same t 0 i a b (λ x. rw ends-a (far-column t 1 sized x)) (λ x. rw ends-b (far-column t 0 sized x)) _ (fine .length)))
-
-  pub route-to-a : (getD (t .trains) i noTrainPlan .direction ≡ 0 → ⊥) → r ≡ anyOf (getD (t .trains) i noTrainPlan .length) (placeBreaks (t .n) b a (t .routes) (64 * i)) → routeFault t (t .routes) (i + 1) (trainPlanAt t (i + 1) .direction) (trainPlanAt t (i + 1) .length) ≡ r
-  unfolding trainPlanAt nearBox farBox
-  route-to-a z e =
-      let o : getD (t .trains) i noTrainPlan .direction ≡ 1 = omega arith in
-      rw (nth-at, o) (sym (e ∙ route-same t 1 i b a (λ x. rw ends-b (far-column t 0 sized x)) (λ x. rw ends-a (far-column t 1 sized x)) _ (fine .length)))
+-- What code 11 says of the train with index i; r is what a function answered for it, and v what a branch found.
+pub route-answer : (t : Table) (a b : List ℕ) (i : ℕ) (r v : Bool) → length (t .segments) ≡ 96 → a ≡ column (farBox t 1) → b ≡ column (farBox t 0) → i < 16 → r ≡ routeFaultIn (t .n) a b (t .routes) (i + 1) (getD (t .trains) i noTrainPlan .direction) (getD (t .trains) i noTrainPlan .length) → r ≡ v → routeFault t (t .routes) (i + 1) (trainPlanAt t (i + 1) .direction) (trainPlanAt t (i + 1) .length) ≡ v
+unfolding trainPlanAt
+route-answer t a b i r v sized ends-a ends-b h e f =
+    rw nth-at (sym (route-in t a b (t .routes) (i + 1) _ _ sized ends-a ends-b (omega arith) (omega arith)) ∙ sym e ∙ f)
 
 -- Code 12 at the trains with indices i and j.
 module _ (routes : List ℕ) (i j : ℕ) where

@@ -1,12 +1,12 @@
 -- Boxes at the ends of segments as lists of 256 by the segment's number, and what codes 8, 11 and 12 say of them.
-use Prim.Native.Nat.{ℕ, _+_, _-_}
-use mathlib.Core.Bool.{Bool, not, _&&_, _||_}
+use Prim.Native.Nat.{ℕ, _-_}
+use mathlib.Core.Bool.{Bool, cond, not, _&&_, _||_}
 use mathlib.Core.List.{List}
 use lib.Dec.{eqb, ltb}
 use lib.ListN.{getD}
 use Rattle.rules.specs.declared.Segment.{Segment}
 use Rattle.rules.specs.declared.BoxPlan.{BoxPlan}
-use Rattle.rules.specs.Rows.{listFrom, outside}
+use Rattle.rules.specs.Rows.{listFrom, anyOf, outside}
 use Rattle.rules.specs.Track.{routeAt}
 
 -- f 0 .. f 255.
@@ -29,13 +29,18 @@ boxFaultOn number p stem left right =
     || sided (p .left) left
     || sided (p .right) right
 
--- Code 11 at place p of the route that begins at `start` in `routes`, on columns of the boxes at the near and the far ends:
--- a segment 0 or above n, or one whose near end is not at the far end of the one before.
+-- Code 11 at place p of train i's route in `routes`, on columns of the boxes at the near and the far ends: a segment 0 or above
+-- n, or one whose near end is not at the far end of the one before.
 unfoldable pub placeBreaks : ℕ → List ℕ → List ℕ → List ℕ → ℕ → ℕ → Bool
-placeBreaks n near far routes start p =
-    let s = getD routes (start + p - 1) 0 in
-    let before = getD routes (start + p - 2) 0 in
+placeBreaks n near far routes i p =
+    let s = routeAt routes i p in
+    let before = routeAt routes i (p - 1) in
     outside n s || (ltb 1 p && not (eqb (getD far before 0) (getD near s 0)))
+
+-- Code 11 of train i's route, of direction d and length r, on the columns of A ends and of B ends; or there is no such train.
+unfoldable pub routeFaultIn : ℕ → List ℕ → List ℕ → List ℕ → ℕ → ℕ → ℕ → Bool
+routeFaultIn n a b routes i d r =
+    outside 16 i || cond (eqb d 0) (anyOf r (placeBreaks n a b routes i)) (anyOf r (placeBreaks n b a routes i))
 
 -- Code 12 at trains i and j: they begin with one segment.
 unfoldable pub sharesStart : List ℕ → ℕ → ℕ → Bool

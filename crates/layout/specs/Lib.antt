@@ -1,3 +1,3 @@
--- What the inner functions of this crate compute; the public ones are stated by the definitions of `rules`.
+-- What the functions of this crate compute on columns and ranks; table_code and head_code are stated by the definitions of `rules`.
 pub mod Ends
 pub mod Ranks

@@ -1,6 +1,6 @@
 // Whether a table record is accepted: codes 3, 4 and 6 to 12, by the definition `tableCode` of `rules`.
-mod network;
-mod placing;
+pub mod network;
+pub mod placing;
 mod ranks;
 
 use rules::Table;

@@ -22,7 +22,7 @@ pub(crate) fn outside(n: u8, x: u8) -> bool
 }
 
 // The box at the far end of each segment in direction d, by the segment's number: B ends for 0, A ends for 1.
-pub(crate) fn far_boxes(t: Table, d: u8) -> [u8; 256]
+pub fn far_boxes(t: Table, d: u8) -> [u8; 256]
     ensures { λ r. ⌜ r ≡ column (farBox t d) ⌝ }
 {
     let mut boxes = [0u8; 256];
@@ -77,7 +77,7 @@ fn place_faulty(n: u8, needed: bool, s: u8) -> bool
 }
 
 // A position that a box of this kind can have.
-fn position_fits(p: BoxPlan, x: u8) -> bool
+pub fn position_fits(p: BoxPlan, x: u8) -> bool
     ensures { λ r. ⌜ r ≡ positionFits p x ⌝ }
 {
     if p.kind == 2 {

@@ -9,10 +9,10 @@ ghost use lib.ListN.{getD};
 ghost use Rattle.rules.specs.Rows.{anyOf};
 ghost use Rattle.rules.specs.Track.{trainPlanAt, farBox};
 ghost use Rattle.rules.specs.Placing.{routeShapeFault, routeFault, startFault};
-ghost use Rattle.layout.specs.Ends.{column, placeBreaks, sharesStart};
+ghost use Rattle.layout.specs.Ends.{column, placeBreaks, routeFaultIn, sharesStart};
 
 // Code 10 on a train's direction and route length.
-fn shape_faulty(d: u8, r: u8) -> bool
+pub fn shape_faulty(d: u8, r: u8) -> bool
     ensures { λ x. ⌜ x ≡ routeShapeFault d r ⌝ }
 {
     if d > 1 {
@@ -45,18 +45,24 @@ fn apart(before: u8, s: u8, near: &[u8; 256], far: &[u8; 256]) -> bool
     far[before as usize] != near[s as usize]
 }
 
-// Code 11 on the route that begins at `start`, by the boxes at the near and the far ends of segments.
-fn route_faulty(
+// Code 11 at some place of a train's route of length r, by the boxes at the near and the far ends of segments. Place 65, which no
+// route has, reads as segment 0.
+fn route_breaks(
     routes: &[u8; 1024],
-    start: usize,
+    train: u8,
     r: u8,
     n: u8,
     near: &[u8; 256],
     far: &[u8; 256],
 ) -> bool
-    requires { ⌜ start + r ≤ 1024 ⌝ }
-    ensures { λ x. ⌜ x ≡ anyOf r (placeBreaks n (now (near .entry)) (now (far .entry)) (now (routes .entry)) start) ⌝ }
+    requires { ⌜ 1 ≤ train ⌝ }
+    requires { ⌜ train ≤ 16 ⌝ }
+    ensures { λ x. ⌜ x ≡ anyOf r (placeBreaks n (now (near .entry)) (now (far .entry)) (now (routes .entry)) train) ⌝ }
 {
+    if r > 64 {
+        return true;
+    }
+    let start = 64 * (train - 1) as usize;
     let length = r as usize;
     let mut p: usize = 0;
     // Place p + 1 is looked at, up to the last.
@@ -75,28 +81,48 @@ fn route_faulty(
     false
 }
 
+// Code 11 on a train's route of direction d and length r, by the boxes at the A ends and at the B ends of segments. There is no
+// route of a train outside 1 to 16.
+pub fn route_faulty(
+    routes: &[u8; 1024],
+    train: u8,
+    d: u8,
+    r: u8,
+    n: u8,
+    a: &[u8; 256],
+    b: &[u8; 256],
+) -> bool
+    ensures { λ x. ⌜ x ≡ routeFaultIn n (now (a .entry)) (now (b .entry)) (now (routes .entry)) train d r ⌝ }
+{
+    if train == 0 {
+        return true;
+    }
+    if train > 16 {
+        return true;
+    }
+    if d == 0 {
+        return route_breaks(routes, train, r, n, a, b);
+    }
+    route_breaks(routes, train, r, n, b, a)
+}
+
 // Code 11: some route has a segment 0 or above n, or one that does not follow the one before.
 pub(crate) fn some_route_faulty(t: Table, a: &[u8; 256], b: &[u8; 256]) -> bool
     requires { ⌜ t .k ≤ 16 ⌝ }
-    requires { ⌜ anyOf (t .k) (λ i. routeShapeFault (trainPlanAt t i .direction) (trainPlanAt t i .length)) ≡ false ⌝ }
     requires { ⌜ now a ≡ column (farBox t 1) ⌝ }
     requires { ⌜ now b ≡ column (farBox t 0) ⌝ }
     ensures { λ r. ⌜ r ≡ anyOf (t .k) (λ i. routeFault t (t .routes) i (trainPlanAt t i .direction) (trainPlanAt t i .length)) ⌝ }
 {
     let n = t.n;
-    let k = t.k as usize;
-    let mut i: usize = 0;
-    while i < k {
+    let k = t.k;
+    let mut number: u8 = 0;
+    while number < k {
+        let i = number as usize;
+        number += 1;
         let p = t.trains[i];
-        let faulty = if p.direction == 0 {
-            route_faulty(&t.routes, 64 * i, p.length, n, a, b)
-        } else {
-            route_faulty(&t.routes, 64 * i, p.length, n, b, a)
-        };
-        if faulty {
+        if route_faulty(&t.routes, number, p.direction, p.length, n, a, b) {
             return true;
         }
-        i += 1;
     }
     false
 }

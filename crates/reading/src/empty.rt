@@ -36,7 +36,7 @@ pub(crate) fn table() -> Table
 }
 
 // The line with nothing in it.
-pub(crate) fn line() -> Line
+pub fn line() -> Line
     ensures { λ r. ⌜ r ≡ emptyLine ⌝ }
 {
     Line {

@@ -1,6 +1,6 @@
 // The reader: the bytes of a table file to the line at its start, or the first code of 1 to 12 that refuses it.
 mod body;
-mod empty;
+pub mod empty;
 mod head;
 mod start;
 

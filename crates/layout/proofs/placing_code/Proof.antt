@@ -1,4 +1,4 @@
-use Rattle.rules.proofs.Tests.{tests, answered}
+use Rattle.rules.proofs.Tests.{tests}
 use Rattle.rules.specs.Rows.{first}
 use Rattle.rules.specs.Placing.{placingRows}
 use borrow.Author.Needs.{needs}
@@ -13,7 +13,7 @@ unfolding placingRows
 returns c = search tests depth 20 fits 20000
 
 some-route-faulty-requires : tie.Need-some-route-faulty-requires
-some-route-faulty-requires c κs = search (needs, answered)
+some-route-faulty-requires c κs = search needs
 
 returns-2 : tie.Need-returns-2
 unfolding placingRows

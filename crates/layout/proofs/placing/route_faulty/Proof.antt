@@ -1,88 +1,34 @@
--- The loop has found no fault at the first p places.
-use Prim.Native.Nat.{_-_}
-use mathlib.Core.Logic.{⊎-elim}
-use native.Mathlib.Omega.{arith}
+-- Each answer is that of the definition, test by test.
+use Rattle.rules.proofs.Tests.{tests}
+use Rattle.rules.specs.Rows.{outside}
 use borrow.Author.Needs.{needs}
-use Rattle.rules.proofs.Tests.{answered}
-use Rattle.rules.proofs.Rows.{NoneYet, none-start, none-turn, none-found, none-done}
-use Rattle.layout.specs.Ends.{placeBreaks}
-use Rattle.layout.proofs.Routes.{breaks-outside, breaks-apart, whole-first, whole-next}
+use Rattle.layout.specs.Ends.{routeFaultIn}
 use Rattle.layout.proofs.placing.route_faulty.Statement.{statement}
 use Rattle.layout.proofs.placing.route_faulty.Tie as tie
 
-abbrev Inv-loop : tie.InvT-loop
-Inv-loop routes start r n near far length p₀ p = NoneYet length (placeBreaks n near far routes start) p
+returns : tie.Need-returns
+unfolding routeFaultIn outside
+returns c = search tests
 
-abbrev μ-loop : tie.MeasureT-loop
-μ-loop routes start r n near far length p₀ p = length - p
+returns-2 : tie.Need-returns-2
+unfolding routeFaultIn outside
+returns-2 c = search tests
 
-loop-holds : tie.Need-loop-holds Inv-loop μ-loop
-loop-holds c = none-start _ _
+route-breaks-requires : tie.Need-route-breaks-requires
+route-breaks-requires c κs = search needs
 
-add-loop : tie.Need-add-loop Inv-loop μ-loop
-add-loop c = omega arith
+returns-3 : tie.Need-returns-3
+unfolding routeFaultIn outside
+returns-3 c = search tests
 
-add-s : tie.Need-add-s Inv-loop μ-loop
-add-s c = omega arith
+route-breaks-requires-2 : tie.Need-route-breaks-requires-2
+route-breaks-requires-2 c κs = search needs
 
-element-copy-out-s : tie.Need-element-copy-out-s Inv-loop μ-loop
-element-copy-out-s c = omega arith
-
-outside-requires : tie.Need-outside-requires Inv-loop μ-loop
-outside-requires c κs = search needs
-
-returns : tie.Need-returns Inv-loop μ-loop
-returns c =
-    none-found _ _ (c .before .before .before .before .loop .p) (omega arith) (breaks-outside _ _ _ _ _ _ (answered _ _ _ (c .before .outside .ensures) (c .if1 .taken)))
-
-add-apart : tie.Need-add-apart Inv-loop μ-loop
-add-apart c = omega arith
-
-sub-apart : tie.Need-sub-apart Inv-loop μ-loop
-sub-apart c = omega arith
-
-element-copy-out-apart : tie.Need-element-copy-out-apart Inv-loop μ-loop
-element-copy-out-apart c = omega arith
-
-apart-requires : tie.Need-apart-requires Inv-loop μ-loop
-apart-requires c κs = search needs
-
-returns-2 : tie.Need-returns-2 Inv-loop μ-loop
-returns-2 c =
-    none-found _ _ (c .before .before .before .before .before .before .before .before .loop .p) (omega arith) (breaks-apart _ _ _ _ _ _ (c .before .before .before .if2 .taken) (answered _ _ _ (c .before .apart .ensures) (c .if3 .taken)))
-
-add-p : tie.Need-add-p Inv-loop μ-loop
-add-p c = omega arith
-
-loop-less : tie.Need-loop-less Inv-loop μ-loop
-loop-less c = omega arith
-
-loop-again : tie.Need-loop-again Inv-loop μ-loop
-loop-again c =
-    let e = answered _ _ _ (c .before .before .outside .ensures) (c .before .if1 .left) in
-    none-turn _ _ (c .before .before .before .before .before .loop .p) (c .before .before .before .before .before .loop .inv) (omega arith) (⊎-elim (λ w. whole-next _ _ _ _ _ _ e (answered _ _ _ (w .2 .ensures) (w .3 .left))) (λ w. whole-first _ _ _ _ _ _ e (w .left)) (c .if2 .came))
-
-returns-3 : tie.Need-returns-3 Inv-loop μ-loop
-returns-3 c = none-done _ _ _ (c .before .loop .inv) (omega arith)
+returns-4 : tie.Need-returns-4
+unfolding routeFaultIn outside
+returns-4 c = search tests
 
 pub route-faulty-spec : {M : Type 1} → statement M
 route-faulty-spec =
     tie.close
-    (tie.spec
-    Inv-loop
-    μ-loop
-    loop-holds
-    add-loop
-    add-s
-    element-copy-out-s
-    outside-requires
-    returns
-    add-apart
-    sub-apart
-    element-copy-out-apart
-    apart-requires
-    returns-2
-    add-p
-    loop-less
-    loop-again
-    returns-3)
+    (tie.spec returns returns-2 route-breaks-requires returns-3 route-breaks-requires-2 returns-4)

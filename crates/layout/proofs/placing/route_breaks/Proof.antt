@@ -1,0 +1,104 @@
+-- The loop has found no fault at the first p places.
+use Prim.Native.Nat.{_-_}
+use mathlib.Core.Logic.{⊎-elim}
+use native.Mathlib.Omega.{arith}
+use borrow.Author.Needs.{needs}
+use Rattle.rules.proofs.Tests.{answered}
+use Rattle.rules.proofs.Rows.{NoneYet, none-start, none-turn, none-found, none-done}
+use Rattle.layout.specs.Ends.{placeBreaks}
+use Rattle.layout.proofs.Routes.{breaks-past, breaks-outside, breaks-apart, whole-first, whole-next}
+use Rattle.layout.proofs.placing.route_breaks.Statement.{statement}
+use Rattle.layout.proofs.placing.route_breaks.Tie as tie
+
+abbrev Inv-loop : tie.InvT-loop
+Inv-loop routes train r n near far start length p₀ p = NoneYet length (placeBreaks n near far routes train) p
+
+abbrev μ-loop : tie.MeasureT-loop
+μ-loop routes train r n near far start length p₀ p = length - p
+
+returns : tie.Need-returns Inv-loop μ-loop
+returns c = breaks-past _ _ _ _ _ _ (c .if1 .taken)
+
+sub-start : tie.Need-sub-start Inv-loop μ-loop
+sub-start c = omega arith
+
+cast-start : tie.Need-cast-start Inv-loop μ-loop
+cast-start c = omega arith
+
+mul-start : tie.Need-mul-start Inv-loop μ-loop
+mul-start c = omega arith
+
+loop-holds : tie.Need-loop-holds Inv-loop μ-loop
+loop-holds c = none-start _ _
+
+add-loop : tie.Need-add-loop Inv-loop μ-loop
+add-loop c = omega arith
+
+add-s : tie.Need-add-s Inv-loop μ-loop
+add-s c = omega arith
+
+element-copy-out-s : tie.Need-element-copy-out-s Inv-loop μ-loop
+element-copy-out-s c = omega arith
+
+outside-requires : tie.Need-outside-requires Inv-loop μ-loop
+outside-requires c κs = search needs
+
+returns-2 : tie.Need-returns-2 Inv-loop μ-loop
+returns-2 c =
+    none-found _ _ (c .before .before .before .before .loop .p) (omega arith) (breaks-outside _ _ _ _ _ _ (omega arith) (omega arith) (answered _ _ _ (c .before .outside .ensures) (c .if2 .taken)))
+
+add-apart : tie.Need-add-apart Inv-loop μ-loop
+add-apart c = omega arith
+
+sub-apart : tie.Need-sub-apart Inv-loop μ-loop
+sub-apart c = omega arith
+
+element-copy-out-apart : tie.Need-element-copy-out-apart Inv-loop μ-loop
+element-copy-out-apart c = omega arith
+
+apart-requires : tie.Need-apart-requires Inv-loop μ-loop
+apart-requires c κs = search needs
+
+returns-3 : tie.Need-returns-3 Inv-loop μ-loop
+returns-3 c =
+    none-found _ _ (c .before .before .before .before .before .before .before .before .loop .p) (omega arith) (breaks-apart _ _ _ _ _ _ (omega arith) (omega arith) (c .before .before .before .if3 .taken) (answered _ _ _ (c .before .apart .ensures) (c .if4 .taken)))
+
+add-p : tie.Need-add-p Inv-loop μ-loop
+add-p c = omega arith
+
+loop-less : tie.Need-loop-less Inv-loop μ-loop
+loop-less c = omega arith
+
+loop-again : tie.Need-loop-again Inv-loop μ-loop
+loop-again c =
+    let e = answered _ _ _ (c .before .before .outside .ensures) (c .before .if2 .left) in
+    none-turn _ _ (c .before .before .before .before .before .loop .p) (c .before .before .before .before .before .loop .inv) (omega arith) (⊎-elim (λ w. whole-next _ _ _ _ _ _ (omega arith) (omega arith) e (w .0 .taken) (answered _ _ _ (w .2 .ensures) (w .3 .left))) (λ w. whole-first _ _ _ _ _ _ (omega arith) (omega arith) e (w .left)) (c .if3 .came))
+
+returns-4 : tie.Need-returns-4 Inv-loop μ-loop
+returns-4 c = none-done _ _ _ (c .before .loop .inv) (omega arith)
+
+pub route-breaks-spec : {M : Type 1} → statement M
+route-breaks-spec =
+    tie.close
+    (tie.spec
+    Inv-loop
+    μ-loop
+    returns
+    sub-start
+    cast-start
+    mul-start
+    loop-holds
+    add-loop
+    add-s
+    element-copy-out-s
+    outside-requires
+    returns-2
+    add-apart
+    sub-apart
+    element-copy-out-apart
+    apart-requires
+    returns-3
+    add-p
+    loop-less
+    loop-again
+    returns-4)

@@ -1,0 +1,115 @@
+-- What is decided, from the tests that the program makes: Enter, Clear, kinds 3 to 6, and a step by its kind.
+use Prim.Native.Nat.{ℕ, _≤_, _<_}
+use mathlib.Core.Path.{_≡_, sym, _∙_}
+use mathlib.Core.Logic.{_⊎_, ⊎-elim, _≢_}
+use mathlib.Core.Bool.{Bool, true, false, not, _&&_}
+use native.Mathlib.Omega.{arith}
+use lib.Dec.{leb}
+use borrow.Author.Tests.{not-true, not-false, eq-eqb, ne-eqb, le-leb, lt-leb}
+use Rattle.rules.specs.declared.BoxPlan.{BoxPlan}
+use Rattle.rules.specs.declared.SwitchBox.{SwitchBox}
+use Rattle.rules.specs.declared.Train.{Train}
+use Rattle.rules.specs.declared.Around.{Around}
+use Rattle.rules.specs.Rows.{first}
+use Rattle.rules.specs.Steps.{enterRows, clearRows, atEnd, cleared, released}
+use Rattle.rules.proofs.StepRows.{enter-iff}
+use Rattle.rules.proofs.Tests.{tests, and-true, and-left, and-right}
+use Rattle.deciding.specs.declared.Decided.{Decided}
+use Rattle.deciding.specs.Decided.{decidedAs, refusing, boxAnswering, hearing, entering, clearing, plainly, decided}
+
+-- The codes of Enter: 20 where the train is crossing, 16 where there is no next.
+module _ (v : Around) (r : Train) where
+  pub enter-crossing : 2 ≤ r .covered → 20 ≡ first (enterRows v r)
+  unfolding enterRows first
+  enter-crossing crossing = search tests
+
+  pub enter-at-end : r .covered < 2 → r .length ≤ r .place → 16 ≡ first (enterRows v r)
+  unfolding enterRows atEnd first
+  enter-at-end single end = search tests
+
+-- Where the train is single and has a next: 19 for each of the holdings that is missing, and 0 where none is, at a link and at a point.
+module _ (v : Around) (r : Train) (single : r .covered < 2) (next : r .place < r .length) where
+  pub enter-no-near : not (r .near) ≡ true → 19 ≡ first (enterRows v r)
+  unfolding enterRows atEnd first
+  enter-no-near missing = let e : r .near ≡ false = not-true _ missing in search tests depth 10
+
+  pub enter-no-far : not (r .far) ≡ true → 19 ≡ first (enterRows v r)
+  unfolding enterRows atEnd first
+  enter-no-far missing = let e : r .far ≡ false = not-true _ missing in search tests depth 10
+
+  pub enter-no-lock : not (v .point) ≡ false → not (r .lock) ≡ true → 19 ≡ first (enterRows v r)
+  unfolding enterRows atEnd first
+  enter-no-lock point missing = let e : r .lock ≡ false = not-true _ missing in search tests depth 10
+
+  pub enter-link : not (r .near) ≡ false → not (r .far) ≡ false → not (v .point) ≡ true → 0 ≡ first (enterRows v r)
+  unfolding enterRows atEnd first
+  enter-link near far link =
+      let e : r .near ≡ true = not-false _ near in
+      let f : r .far ≡ true = not-false _ far in
+      search tests depth 10
+
+  pub enter-point : not (r .near) ≡ false → not (r .far) ≡ false → not (r .lock) ≡ false → 0 ≡ first (enterRows v r)
+  unfolding enterRows atEnd first
+  enter-point near far lock =
+      let e : r .near ≡ true = not-false _ near in
+      let f : r .far ≡ true = not-false _ far in
+      let g : r .lock ≡ true = not-false _ lock in
+      search tests depth 10
+
+-- Where Enter has no code, place and count have room for one more.
+pub enter-room : (v : Around) (r : Train) (code : ℕ) → code ≡ first (enterRows v r) → code ≡ 0 → (r .covered < 2) × (r .place < r .length)
+enter-room v r code e none = let free = enter-iff v r .0 (sym e ∙ none) in (free .0, free .1 .0)
+
+module _ (v : Around) (r : Train) (p : BoxPlan) (x : SwitchBox) (d : Decided) where
+  -- Clear: refused where the train is single.
+  pub clear-single : r .covered ≤ 1 → d ≡ refusing 20 r x → d ≡ clearing v r p x
+  unfolding clearing clearRows first
+  clear-single single e = rw (le-leb (r .covered) 1 single) e
+
+  pub clear-crossing : 1 < r .covered → d ≡ decidedAs 0 (cleared r) (released p x (v .tail) (v .second)) → d ≡ clearing v r p x
+  unfolding clearing clearRows first
+  clear-crossing crossing e = rw (lt-leb (r .covered) 1 crossing) e
+
+module _ (kind at : ℕ) (known : Bool) (v : Around) (r : Train) (p : BoxPlan) (x : SwitchBox) (d : Decided) where
+  -- Kinds 3 to 6: 13 for a box byte, 14 for an unknown train.
+  pub plain-box : at ≢ 0 → d ≡ refusing 13 r x → d ≡ plainly kind at known v r p x
+  unfolding plainly
+  plain-box box e = rw (ne-eqb at 0 box) e
+
+  pub plain-unknown : at ≡ 0 → not known ≡ true → d ≡ refusing 14 r x → d ≡ plainly kind at known v r p x
+  unfolding plainly
+  plain-unknown none unknown e = rw (eq-eqb at 0 none, not-true known unknown) e
+
+  -- A known train, by the kind.
+  module _ (none : at ≡ 0) (there : not known ≡ false) where
+    pub plain-answer : kind ≡ 3 → d ≡ boxAnswering v r p x (r .message) → d ≡ plainly kind at known v r p x
+    unfolding plainly
+    plain-answer k e = rw (k, eq-eqb at 0 none, not-false known there) e
+
+    pub plain-hear : kind ≡ 4 → d ≡ hearing v r x (r .message) → d ≡ plainly kind at known v r p x
+    unfolding plainly
+    plain-hear k e = rw (k, eq-eqb at 0 none, not-false known there) e
+
+    pub plain-enter : kind ≡ 5 → d ≡ entering v r x → d ≡ plainly kind at known v r p x
+    unfolding plainly
+    plain-enter k e = rw (k, eq-eqb at 0 none, not-false known there) e
+
+    pub plain-clear : kind ≢ 3 → kind ≢ 4 → kind ≢ 5 → d ≡ clearing v r p x → d ≡ plainly kind at known v r p x
+    unfolding plainly
+    plain-clear k l m e =
+        rw (eq-eqb at 0 none, not-false known there, ne-eqb kind 3 k, ne-eqb kind 4 l, ne-eqb kind 5 m) e
+
+  -- A step of a kind other than 1 and 2: by the range of kinds 3 to 6.
+  module _ (one : kind ≢ 1) (two : kind ≢ 2) where
+    pub decided-plain : 1 ≤ kind → kind < 7 → d ≡ plainly kind at known v r p x → d ≡ decided kind at known v r p x
+    unfolding decided
+    decided-plain low high e =
+        let within : (leb 3 kind && leb kind 6) ≡ true = and-true _ _ (le-leb 3 kind (omega arith)) (le-leb kind 6 (omega arith)) in
+        rw (ne-eqb kind 1 one, ne-eqb kind 2 two, within) e
+
+    pub decided-other : (kind < 1) ⊎ (7 ≤ kind) → d ≡ refusing 13 r x → d ≡ decided kind at known v r p x
+    unfolding decided
+    decided-other outside e =
+        let beyond : (leb 3 kind && leb kind 6) ≡ false =
+        ⊎-elim (λ low. and-left (leb 3 kind) (leb kind 6) (lt-leb 3 kind (omega arith))) (λ high. and-right (leb 3 kind) (leb kind 6) (lt-leb kind 6 (omega arith))) outside in
+        rw (ne-eqb kind 1 one, ne-eqb kind 2 two, beyond) e

@@ -1,0 +1,9 @@
+-- What stands around a train: looked up by the code, and on the columns of a table.
+pub mod Sights
+pub mod Around
+-- What the rows of a request say.
+pub mod RequestRows
+-- What is decided, from the tests that the program makes.
+pub mod Decisions
+-- What is decided is the step of `rules`.
+pub mod Steps

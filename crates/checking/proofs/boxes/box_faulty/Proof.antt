@@ -1,0 +1,33 @@
+-- Each answer is that of the definition, test by test.
+use Rattle.rules.proofs.Tests.{tests}
+use borrow.Author.Needs.{needs}
+use Rattle.checking.specs.Faults.{boxFaultWith}
+use Rattle.checking.proofs.boxes.box_faulty.Statement.{statement}
+use Rattle.checking.proofs.boxes.box_faulty.Tie as tie
+
+position-fits-requires : tie.Need-position-fits-requires
+position-fits-requires c κs = search needs
+
+returns : tie.Need-returns
+unfolding boxFaultWith
+returns c = search tests depth 12
+
+returns-2 : tie.Need-returns-2
+unfolding boxFaultWith
+returns-2 c = search tests depth 12
+
+returns-3 : tie.Need-returns-3
+unfolding boxFaultWith
+returns-3 c = search tests depth 12
+
+returns-4 : tie.Need-returns-4
+unfolding boxFaultWith
+returns-4 c = search tests depth 12
+
+returns-5 : tie.Need-returns-5
+unfolding boxFaultWith
+returns-5 c = search tests depth 12
+
+pub box-faulty-spec : {M : Type 1} → statement M
+box-faulty-spec =
+    tie.close (tie.spec position-fits-requires returns returns-2 returns-3 returns-4 returns-5)

@@ -1,0 +1,144 @@
+// Code 27 at the trains of a line.
+use deciding::requests;
+use deciding::sight;
+use layout::placing;
+use rules::Line;
+use rules::Message;
+use rules::Request;
+use rules::Train;
+ghost use mathlib.Core.Path.{_≡_};
+ghost use mathlib.Core.Bool.{not, _||_};
+ghost use Prim.Native.Nat.{_≤_};
+ghost use lib.Dec.{eqb};
+ghost use Rattle.rules.specs.Rows.{anyOf, first};
+ghost use Rattle.rules.specs.Track.{farBox};
+ghost use Rattle.rules.specs.Steps.{addressRows};
+ghost use Rattle.rules.specs.Record.{answerCode, messageFault, trainFault};
+ghost use Rattle.layout.specs.Ends.{column};
+ghost use Rattle.deciding.specs.Sight.{kindOf, aroundIn};
+ghost use Rattle.checking.specs.Faults.{trainFaultIn};
+
+// A code that a box can give in answer to a lock request, other than 0.
+fn lock_answer(code: u8) -> bool
+    ensures { λ r. ⌜ r ≡ (eqb code 23 || eqb code 24 || eqb code 25) ⌝ }
+{
+    if code == 23 {
+        return true;
+    }
+    if code == 24 {
+        return true;
+    }
+    code == 25
+}
+
+// A code that a box can give in answer to a request.
+fn answer_code(q: Request, code: u8) -> bool
+    ensures { λ r. ⌜ r ≡ answerCode q code ⌝ }
+{
+    if code == 0 {
+        return true;
+    }
+    match q {
+        Request::Reserve(_) => code == 22,
+        Request::Lock(_) => lock_answer(code),
+    }
+}
+
+// Codes 16 and 17 at a request of the train with this number and record.
+fn address_faulty(
+    number: u8,
+    r: Train,
+    q: Request,
+    routes: &[u8; 1024],
+    a: &[u8; 256],
+    b: &[u8; 256],
+    kinds: &[u8; 256],
+) -> bool
+    ensures { λ x. ⌜ x ≡ not (eqb (first (addressRows (aroundIn (now (a .entry)) (now (b .entry)) (now (kinds .entry)) (now (routes .entry)) number r) r q)) 0) ⌝ }
+{
+    let v = sight::around(number, r, routes, a, b, kinds);
+    requests::address_code(v, r, q) != 0
+}
+
+// Code 27 on a train's message.
+fn message_faulty(
+    number: u8,
+    r: Train,
+    routes: &[u8; 1024],
+    a: &[u8; 256],
+    b: &[u8; 256],
+    kinds: &[u8; 256],
+) -> bool
+    ensures { λ x. ⌜ x ≡ messageFault (aroundIn (now (a .entry)) (now (b .entry)) (now (kinds .entry)) (now (routes .entry)) number r) r (r .message) ⌝ }
+{
+    let message = r.message;
+    match message {
+        Message::Idle => false,
+        Message::Sent(q) => address_faulty(number, r, q, routes, a, b, kinds),
+        Message::Answered(q, code) => {
+            if address_faulty(number, r, q, routes, a, b, kinds) {
+                return true;
+            }
+            !answer_code(q, code)
+        }
+    }
+}
+
+// Code 27 at the train with this number and record, by the routes as they stand, the boxes at the A ends and at the B ends of
+// segments and the kinds of boxes. There are n segments.
+fn train_faulty(
+    number: u8,
+    r: Train,
+    n: u8,
+    routes: &[u8; 1024],
+    a: &[u8; 256],
+    b: &[u8; 256],
+    kinds: &[u8; 256],
+) -> bool
+    ensures { λ x. ⌜ x ≡ trainFaultIn n (now (a .entry)) (now (b .entry)) (now (kinds .entry)) (now (routes .entry)) number r ⌝ }
+{
+    if placing::shape_faulty(r.direction, r.length) {
+        return true;
+    }
+    if placing::route_faulty(routes, number, r.direction, r.length, n, a, b) {
+        return true;
+    }
+    if r.place == 0 {
+        return true;
+    }
+    if r.place > r.length {
+        return true;
+    }
+    if r.covered > r.place {
+        return true;
+    }
+    if r.covered == 0 {
+        return true;
+    }
+    if r.covered > 2 {
+        return true;
+    }
+    message_faulty(number, r, routes, a, b, kinds)
+}
+
+// Code 27: some train of the line is at fault.
+pub(crate) fn some_train_faulty(line: Line, a: &[u8; 256], b: &[u8; 256], kinds: &[u8; 256]) -> bool
+    requires { ⌜ line .table .k ≤ 16 ⌝ }
+    requires { ⌜ now a ≡ column (farBox (line .table) 1) ⌝ }
+    requires { ⌜ now b ≡ column (farBox (line .table) 0) ⌝ }
+    requires { ⌜ now kinds ≡ column (kindOf (line .table)) ⌝ }
+    ensures { λ r. ⌜ r ≡ anyOf (line .table .k) (trainFault line) ⌝ }
+{
+    let n = line.table.n;
+    let k = line.table.k;
+    let mut number: u8 = 0;
+    while number < k {
+        let i = number as usize;
+        number += 1;
+        let r = line.trains[i];
+        if train_faulty(number, r, n, &line.routes, a, b, kinds) {
+            return true;
+        }
+    }
+    false
+}

@@ -1,0 +1,6 @@
+-- What holds between two steps of a run.
+pub mod Running
+-- One turn of the loop over steps.
+pub mod Turn
+-- The ends of a run.
+pub mod Runs

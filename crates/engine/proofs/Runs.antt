@@ -1,0 +1,120 @@
+-- The ends of a run: a refused file, a buffer that is too short, and all steps taken; and those of a single step.
+use Prim.Native.Nat.{ℕ, _≤_, _<_}
+use mathlib.Core.Path.{_≡_, refl, sym, _∙_, ap}
+use mathlib.Core.Bool.{true, false}
+use mathlib.Core.List.{List, [], _∷_, _++_}
+use native.Mathlib.Decide.{ℕ-discrete}
+use native.Mathlib.Omega.{arith}
+use borrow.Author.Tests.{lt-ltb, le-ltb, ne-eqb}
+use lib.ListN.{length, getD, drop}
+use Rattle.rules.specs.declared.Line.{Line}
+use Rattle.rules.specs.declared.Outcome.{Outcome}
+use Rattle.rules.specs.Rows.{first}
+use Rattle.rules.specs.File.{fileCode, decode}
+use Rattle.rules.specs.Line.{startLine, emptyLine, read}
+use Rattle.rules.specs.Steps.{Step, step}
+use Rattle.rules.specs.Record.{recordFault, checkedStep}
+use Rattle.rules.specs.History.{lineAfter, events}
+use Rattle.rules.specs.Run.{wholeSteps, stepCount, answersOf, answersFrom, runCode, run, answered, SafeRun}
+use Rattle.rules.proofs.Files.{file-iff}
+use Rattle.rules.proofs.Sound.{sound-iff}
+use Rattle.rules.proofs.Runs.{checked-run, checked-answers, safe-run}
+
+-- What the reader gives: the start line of an accepted file, and the empty record for a refused one.
+read-accepted : (file : List ℕ) → fileCode file ≡ 0 → read file ≡ record { code = 0; line = startLine (decode file) }
+unfolding read
+read-accepted file e = rw e
+
+read-refused : (file : List ℕ) → (fileCode file ≡ 0 → ⊥) → read file ≡ record { code = fileCode file; line = emptyLine }
+unfolding read
+read-refused file n = rw (ne-eqb (fileCode file) 0 n)
+
+-- A file that the reader gives code 0 has code 0.
+read-code : (file : List ℕ) → read file .code ≡ fileCode file
+read-code file =
+    elim (ℕ-discrete (fileCode file) 0) [
+      | yes e ↦ ap (λ (o : Outcome). o .code) (read-accepted file e) ∙ sym e
+      | no n ↦ ap (λ (o : Outcome). o .code) (read-refused file n)
+    ]
+
+accepted-file : (file : List ℕ) (o : Outcome) → o ≡ read file → o .code ≡ 0 → fileCode file ≡ 0
+accepted-file file o is zero = sym (read-code file) ∙ ap (λ (x : Outcome). x .code) (sym is) ∙ zero
+
+-- What a run promises, for its outcome and its buffer.
+abbrev Promised : List ℕ → List ℕ → List ℕ → Outcome → List ℕ → Type 0
+Promised file steps buffer r after =
+    (r ≡ run checkedStep file steps buffer)
+    × ((after ≡ answered checkedStep file steps buffer) × (r .code ≡ 0 → SafeRun file steps (r .line) buffer after))
+
+module _ (file steps buffer : List ℕ) where
+  pub run-refused : (o : Outcome) → o ≡ read file → (o .code ≡ 0 → ⊥) → Promised file steps buffer o buffer
+  unfolding run answered runCode first
+  run-refused o is n =
+      let other : (fileCode file ≡ 0 → ⊥) = λ e. n (ap (λ (x : Outcome). x .code) is ∙ read-code file ∙ e) in
+      let same : o ≡ record { code = fileCode file; line = emptyLine } = is ∙ read-refused file other in (
+        rw (ne-eqb (fileCode file) 0 other, ne-eqb (fileCode file) 0 other) same,
+        (rw (ne-eqb (fileCode file) 0 other, ne-eqb (fileCode file) 0 other) refl, λ e. absurd (n e)),
+      )
+
+  pub run-short : (o : Outcome) → o ≡ read file → o .code ≡ 0 → length buffer < stepCount steps → (l : Line) → l ≡ emptyLine
+      → Promised file steps buffer (record { code = 26; line = l }) buffer
+  unfolding run answered runCode first
+  run-short o is zero short l l-is =
+      let code : fileCode file ≡ 0 = accepted-file file o is zero in (
+        rw (code, lt-ltb (length buffer) (stepCount steps) short, l-is) refl,
+        (rw (code, lt-ltb (length buffer) (stepCount steps) short) refl, λ e. absurd (omega arith)),
+      )
+
+  accepted-run : fileCode file ≡ 0 → stepCount steps ≤ length buffer → runCode file steps buffer ≡ 0
+  unfolding runCode first
+  accepted-run code room = rw (code, le-ltb (length buffer) (stepCount steps) room)
+
+  pub run-done : (o : Outcome) → o ≡ read file → o .code ≡ 0 → stepCount steps ≤ length buffer
+      → (l : Line) (after : List ℕ) → l ≡ lineAfter step (o .line) (wholeSteps steps)
+      → after ≡ answersFrom step (o .line) steps ++ drop (stepCount steps) buffer
+      → Promised file steps buffer (record { code = 0; line = l }) after
+  unfolding run answered
+  run-done o is zero room l after l-is after-is =
+      let code : fileCode file ≡ 0 = accepted-file file o is zero in
+      let start : o .line ≡ startLine (decode file) = ap (λ (x : Outcome). x .line) (is ∙ read-accepted file code) in
+      let taken : runCode file steps buffer ≡ 0 = accepted-run code room in
+      let left : record { code = 0; line = l } ≡ run checkedStep file steps buffer =
+      rw (checked-run file steps buffer, taken, l-is, start) refl in
+      let told : after ≡ answered checkedStep file steps buffer =
+      rw (checked-answers file steps buffer, taken, after-is, start) refl in
+      let line : l ≡ run checkedStep file steps buffer .line = ap (λ (x : Outcome). x .line) left in
+      (left, (told, λ e. rw (line, told) (safe-run file steps buffer taken)))
+
+-- All steps taken by single calls: the code and the buffer of a run.
+pub run-called : (file steps buffer : List ℕ) (o : Outcome) → o ≡ read file → o .code ≡ 0 → stepCount steps ≤ length buffer
+    → (after : List ℕ) → after ≡ answersFrom checkedStep (o .line) steps ++ drop (stepCount steps) buffer
+    → (0 ≡ run checkedStep file steps buffer .code) × (after ≡ answered checkedStep file steps buffer)
+unfolding run answered
+run-called file steps buffer o is zero room after after-is =
+    let code : fileCode file ≡ 0 = accepted-file file o is zero in
+    let start : o .line ≡ startLine (decode file) = ap (λ (x : Outcome). x .line) (is ∙ read-accepted file code) in
+    let taken : runCode file steps buffer ≡ 0 = accepted-run file steps buffer code room in
+    (rw taken refl, rw (taken, after-is, start) refl)
+
+-- An accepted file has at most 16 trains.
+pub counted : (file : List ℕ) (o : Outcome) → o ≡ read file → o .code ≡ 0 → o .line .table .k ≤ 16
+unfolding startLine
+counted file o is zero =
+    let code : fileCode file ≡ 0 = accepted-file file o is zero in
+    let k : o .line .table .k ≡ decode file .k = ap (λ (x : Outcome). x .line .table .k) (is ∙ read-accepted file code) in
+    rw k (file-iff file .0 code .table .limits .trainsHigh)
+
+-- A single step: refused with 27 where the record check finds something, else the one step of its three bytes.
+pub step-refused : (l : Line) (s : Step) → recordFault l ≡ true → record { code = 27; line = l } ≡ checkedStep l s
+unfolding checkedStep
+step-refused l s e = rw e refl
+
+pub sound-trains : (l : Line) → recordFault l ≡ false → l .table .k ≤ 16
+sound-trains l e = sound-iff l .0 e .table .limits .trainsHigh
+
+pub step-taken : (l : Line) (kind train box : ℕ) → recordFault l ≡ false → (after : Line) (answer before : List ℕ)
+    → after ≡ lineAfter step l (wholeSteps (kind ∷ train ∷ box ∷ []))
+    → answer ≡ answersFrom step l (kind ∷ train ∷ box ∷ []) ++ drop (stepCount (kind ∷ train ∷ box ∷ [])) before
+    → record { code = getD answer 0 0; line = after } ≡ checkedStep l (record { kind = kind; train = train; box = box })
+unfolding checkedStep lineAfter wholeSteps answersFrom answersOf events
+step-taken l kind train box e after answer before after-is answer-is = rw (e, after-is, answer-is) refl

@@ -1,0 +1,53 @@
+-- By the three ends of a run.
+use native.Mathlib.Omega.{arith}
+use borrow.Author.Needs.{needs}
+use Rattle.rules.specs.Run.{stepCount}
+use Rattle.engine.proofs.Runs.{run-refused, run-short, run-done, counted}
+use Rattle.engine.proofs.run.Statement.{statement}
+use Rattle.engine.proofs.run.Tie as tie
+
+returns : tie.Need-returns
+returns c =
+    let read = c .before .before in
+    let args = read .before .before .before .before .args in
+    run-refused (args .file .now) (args .steps .now) (args .answers .now) _ (read .read .ensures) (c .if1 .taken)
+
+returns-2 : tie.Need-returns-2
+unfolding stepCount
+returns-2 c =
+    let counted = c .before .before in
+    let read = counted .before .before .before in
+    let args = read .before .before .before .before .args in
+    run-short (args .file .now) (args .steps .now) (args .answers .now) _ (read .read .ensures) (counted .before .if1 .left)
+    (omega (arith, c .before .if2 .taken, counted .count .ensures)) _ (c .line .ensures)
+
+advance-requires : tie.Need-advance-requires
+unfolding stepCount
+advance-requires c κs =
+    let counts = c .before .before .before in
+    let read = counts .before .before .before in
+    (omega (arith, c .before .before .if2 .left, counts .count .ensures), counted _ _ (read .read .ensures) (counts .before .if1 .left))
+
+returns-3 : tie.Need-returns-3
+unfolding stepCount
+returns-3 c =
+    let taken = c .before .before in
+    let counts = taken .before .before .before .before in
+    let read = counts .before .before .before in
+    let args = read .before .before .before .before .args in
+    run-done (args .file .now) (args .steps .now) (args .answers .now) _ (read .read .ensures) (counts .before .if1 .left)
+    (omega (arith, taken .before .before .before .if2 .left, counts .count .ensures)) _ _ (taken .advance .ensures .0)
+    (taken .advance .ensures .1)
+
+pub run-spec : {M : Type 1} → statement M
+run-spec =
+    tie.close
+    (tie.spec
+    (λ c κs. search needs)
+    returns
+    (λ c κs. search needs)
+    (λ c κs. search needs)
+    returns-2
+    advance-requires
+    (λ c. search needs)
+    returns-3)

@@ -1,0 +1,51 @@
+// The line engine: a single step on any line record, and a run of a table file and all its steps.
+pub mod steps;
+
+use rules::Line;
+use rules::Outcome;
+ghost use mathlib.Core.Path.{_≡_};
+ghost use Rattle.rules.specs.Record.{checkedStep};
+ghost use Rattle.rules.specs.Run.{run, answered, SafeRun};
+
+// Runs a table file and all its steps, three bytes each: reads the table, takes every step, and puts the codes into the lent
+// buffer. The code is the file's, then 26 where the buffer is shorter than the answers; with any code but 0 the buffer is as it
+// was. A last step of one or two bytes is answered 13 and changes nothing. What a run leaves and answers is what calls of `step` one
+// after the other do, and demand 3 holds of it.
+pub fn run(file: &[u8], steps: &[u8], answers: &mut [u8]) -> Outcome
+    ensures { λ r. ⌜ r ≡ run checkedStep (now (file .entry)) (now (steps .entry)) (now (answers .entry)) ⌝ }
+    ensures { λ r. ⌜ now (answers .exit) ≡ answered checkedStep (now (file .entry)) (now (steps .entry)) (now (answers .entry)) ⌝ }
+    ensures { λ r. ⌜ (r .code ≡ 0 → SafeRun (now (file .entry)) (now (steps .entry)) (r .line) (now (answers .entry)) (now (answers .exit))) ⌝ }
+{
+    let start = reading::read(file);
+    if start.code != 0 {
+        return start;
+    }
+    if answers.len() < steps::count(steps.len()) {
+        return Outcome {
+            code: 26,
+            line: reading::empty::line(),
+        };
+    }
+    let line = start.line;
+    Outcome {
+        code: 0,
+        line: steps::advance(line, steps, answers),
+    }
+}
+
+// A single step on any line record: 27 first, then 13, 14 and the rows of the step's kind. With 13 to 21 and 27 the line is as it
+// was.
+pub fn step(line: Line, kind: u8, train: u8, number: u8) -> Outcome
+    ensures { λ r. ⌜ r ≡ checkedStep line (record { kind = kind; train = train; box = number }) ⌝ }
+{
+    if checking::record_faulty(line) {
+        return Outcome { code: 27, line };
+    }
+    let bytes = [kind, train, number];
+    let mut answer = [0u8; 1];
+    let after = steps::advance(line, &bytes, &mut answer);
+    Outcome {
+        code: answer[0],
+        line: after,
+    }
+}

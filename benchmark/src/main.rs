@@ -1,145 +1,16 @@
-//! Times the proved reader and writer, from their static library, beside the second implementation, on the
-//! same files in one run. For each table and each of reading and writing it prints nanoseconds a call (the
-//! median of many rounds, taken in turn): proved, second implementation, second implementation without its
-//! loop test, which is slow, and the ratios of the first to the other two. `tools/benchmark` builds the
-//! library and runs this.
+//! Times the proved functions, from their static library, beside the second implementation, on the same
+//! files and steps in one run, and checks that both give the same. `tools/benchmark` builds the library and
+//! runs this.
 
-use reference::fault::Fault;
-use reference::generate::prng::Prng;
-use reference::generate::tables::largest_table;
-use reference::line::start_line;
-use reference::table::{Segment, SwitchBox, Table, TrainEntry, BORDER, LINK};
-use reference::table_check::table_code_with;
-use reference::table_read::{read_table, read_table_with};
-use reference::table_write::{file_bytes, write_table};
-use std::hint::black_box;
-use std::time::Instant;
-
-
-#[link(name = "bench", kind = "static")]
-extern "C" {
-    fn bench_read(data: *const u8, length: usize, i: u8) -> u64;
-    fn bench_write_back(data: *const u8, length: usize, buffer: *mut u8, room: usize) -> u8;
-}
-
-const ROUNDS: usize = 41;
-const CALLS: u32 = 400;
+mod files;
+mod library;
+mod steps;
+mod timing;
 
 fn main() {
-    println!("{:<26} {:>5}   {:<34}   {:<34}", "table", "bytes", "reading", "writing");
-    for (name, table) in tables() {
-        let file = file_bytes(&table);
-        let mut buffer = vec![0; file.len()];
-        assert!(read_table(&file).is_ok(), "{name} is accepted");
-        assert_eq!(proved_write_back(&file, &mut buffer), 0);
-        assert_eq!(buffer, file, "{name} comes back");
-        let mut other = buffer.clone();
-        let [read, back, other_read, plain_read, other_write, plain_write] = medians(&mut [
-            &mut || {
-                black_box(proved_read(black_box(&file)));
-            },
-            &mut || {
-                black_box(proved_write_back(black_box(&file), black_box(&mut buffer)));
-            },
-            &mut || {
-                black_box(start_line(&read_table(black_box(&file)).unwrap()));
-            },
-            &mut || {
-                black_box(start_line(&read_table_with(black_box(&file), Fault::LoopTaken).unwrap()));
-            },
-            &mut || {
-                black_box(write_table(black_box(&table), black_box(&mut other))).unwrap();
-            },
-            &mut || {
-                assert_eq!(table_code_with(black_box(&table), Fault::LoopTaken), 0);
-                black_box(file_bytes(black_box(&table)));
-            },
-        ]);
-        // The library's second function reads and then writes: what is above reading is the writing.
-        let write = (back - read).max(0.0);
-        print!("{name:<26} {:>5}", file.len());
-        for (proved, other, plain) in [(read, other_read, plain_read), (write, other_write, plain_write)] {
-            print!("   {proved:>6.0} {other:>7.0} {plain:>6.0} {:>5.2} {:>5.2}", proved / other, proved / plain);
-        }
-        println!();
-    }
-}
-
-fn proved_read(file: &[u8]) -> u64 {
-    // SAFETY: the function reads the slice that it is given and nothing else; it asks nothing of its arguments.
-    unsafe { bench_read(file.as_ptr(), file.len(), 5) }
-}
-
-fn proved_write_back(file: &[u8], buffer: &mut [u8]) -> u8 {
-    // SAFETY: as above; it writes within the buffer, which is no part of the file.
-    unsafe { bench_write_back(file.as_ptr(), file.len(), buffer.as_mut_ptr(), buffer.len()) }
-}
-
-/// The median time of a call of each, in nanoseconds, in rounds taken in turn.
-fn medians<const N: usize>(calls: &mut [&mut dyn FnMut(); N]) -> [f64; N] {
-    let mut times = [(); N].map(|_| Vec::new());
-    for _ in 0..ROUNDS {
-        for (call, times) in calls.iter_mut().zip(&mut times) {
-            times.push(round(call));
-        }
-    }
-    times.map(|mut t| {
-        t.sort_by(f64::total_cmp);
-        t[ROUNDS / 2]
-    })
-}
-
-fn round(call: &mut dyn FnMut()) -> f64 {
-    let start = Instant::now();
-    for _ in 0..CALLS {
-        call();
-    }
-    start.elapsed().as_nanos() as f64 / f64::from(CALLS)
-}
-
-/// The tables: the largest that the generator makes, and the longest single track, written in order, reversed
-/// and shuffled, with and without trains.
-fn tables() -> Vec<(String, Table)> {
-    let mut all = Vec::new();
-    for seed in 0..4 {
-        all.push((format!("largest, seed {seed}"), largest_table(&mut Prng::for_case(seed, 0))));
-    }
-    let mut shuffled: Vec<u8> = (1..=95).collect();
-    let mut rng = Prng::for_case(7, 0);
-    for i in (1..shuffled.len()).rev() {
-        shuffled.swap(i, rng.below(i + 1));
-    }
-    for trains in [0, 16] {
-        let in_order: Vec<u8> = (1..=95).collect();
-        let reversed: Vec<u8> = (1..=95).rev().collect();
-        all.push((format!("track in order, {trains} trains"), track(&in_order, trains)));
-        all.push((format!("track reversed, {trains} trains"), track(&reversed, trains)));
-        all.push((format!("track shuffled, {trains} trains"), track(&shuffled, trains)));
-    }
-    all
-}
-
-/// A single track of segments with these numbers, from one border through links to the other; boxes are numbered
-/// as the segments are. Trains stand one behind the other, with routes as long as they may be.
-fn track(numbers: &[u8], trains: usize) -> Table {
-    let n = numbers.len();
-    // The box where the segment at place p begins has that segment's number; the last box is n + 1.
-    let begin = |p: usize| if p < n { numbers[p] } else { n as u8 + 1 };
-    let mut segments = vec![Segment::default(); n];
-    let mut boxes = vec![SwitchBox::default(); n + 1];
-    for p in 0..n {
-        segments[numbers[p] as usize - 1] = Segment { a: begin(p), b: begin(p + 1) };
-    }
-    for p in 0..=n {
-        let record = &mut boxes[begin(p) as usize - 1];
-        *record = match p {
-            0 => SwitchBox { kind: BORDER, stem: numbers[0], ..Default::default() },
-            _ if p == n => SwitchBox { kind: BORDER, stem: numbers[n - 1], ..Default::default() },
-            _ => SwitchBox { kind: LINK, stem: numbers[p - 1], left: numbers[p], ..Default::default() },
-        };
-    }
-    let trains = (0..trains)
-        .map(|i| TrainEntry { direction: 0, route: numbers[i..n.min(i + 64)].to_vec() })
-        .collect();
-    Table { version: 1, segments, boxes, trains }
+    files::print();
+    println!();
+    steps::print();
+    println!();
+    steps::print_sizes();
 }

@@ -1,8 +1,9 @@
 //! Code 27: what a line record must hold before any call works on it.
 
+use crate::fault::Fault;
 use crate::line::*;
 use crate::step_request::request_stopped;
-use crate::table_check::{route_code, table_code};
+use crate::table_check::{route_code, table_code_with};
 
 /// The clause of code 27 that a record breaks.
 #[derive(Clone, Copy, Debug, PartialEq, Eq)]
@@ -37,7 +38,12 @@ pub fn record_code(line: &Line) -> u8 {
 
 /// The first clause of code 27 that the record breaks.
 pub fn record_fault(line: &Line) -> Option<RecordFault> {
-    match table_code(&line.table) {
+    record_fault_with(line, Fault::None)
+}
+
+/// As `record_fault`, with a fault of the table part's codes switched on.
+pub fn record_fault_with(line: &Line, fault: Fault) -> Option<RecordFault> {
+    match table_code_with(&line.table, fault) {
         0 => {}
         code => return Some(RecordFault::TablePart(code)),
     }

@@ -1,9 +1,15 @@
-// The reader and the writer as the benchmark calls them, from a static library. Nothing else uses this crate.
+// The reader, the writer and the engine as the benchmark calls them, from a static library. Nothing else uses this crate.
+use rules::Line;
 use rules::Outcome;
 ghost use mathlib.Core.Path.{_≡_};
-ghost use Prim.Native.Nat.{_%_, _<_};
+ghost use Prim.Native.Nat.{_%_, _/_, _+_, _<_, _≤_};
+ghost use mathlib.Core.List.{_++_};
+ghost use lib.ListN.{length, drop};
 ghost use Rattle.rules.specs.File.{writeCode, written};
 ghost use Rattle.rules.specs.Line.{read};
+ghost use Rattle.rules.specs.Record.{checkedStep};
+ghost use Rattle.rules.specs.History.{lineAfter};
+ghost use Rattle.rules.specs.Run.{wholeSteps, stepCount, answersFrom, run, answered};
 ghost use Rattle.bench.specs.Sample.{sample};
 
 // A byte as a number of 64 bits.
@@ -55,4 +61,55 @@ pub extern "C" fn bench_write_back(bytes: &[u8], buffer: &mut [u8]) -> u8
     let line = outcome.line;
     let table = line.table;
     writing::write(table, buffer)
+}
+
+// Runs a file and steps, and answers the code.
+#[no_mangle]
+pub extern "C" fn bench_run(file: &[u8], steps: &[u8], answers: &mut [u8]) -> u8
+    ensures { λ r. ⌜ r ≡ run checkedStep (now (file .entry)) (now (steps .entry)) (now (answers .entry)) .code ⌝ }
+    ensures { λ r. ⌜ now (answers .exit) ≡ answered checkedStep (now (file .entry)) (now (steps .entry)) (now (answers .entry)) ⌝ }
+{
+    let outcome = engine::run(file, steps, answers);
+    outcome.code
+}
+
+// Takes all steps from a line on, each by a call of its own on the line that the one before returned.
+fn called(start: Line, steps: &[u8], answers: &mut [u8]) -> Line
+    requires { ⌜ stepCount (now steps) ≤ length (now answers) ⌝ }
+    ensures { λ r. ⌜ r ≡ lineAfter checkedStep start (wholeSteps (now (steps .entry))) ⌝ }
+    ensures { λ r. ⌜ now (answers .exit) ≡ answersFrom checkedStep start (now (steps .entry)) ++ drop (stepCount (now (steps .entry))) (now (answers .entry)) ⌝ }
+{
+    let mut line = start;
+    let whole = steps.len() / 3;
+    let mut n: usize = 0;
+    while n < whole {
+        let at = 3 * n;
+        let done = n + 1;
+        let outcome = engine::step(line, steps[at], steps[at + 1], steps[at + 2]);
+        answers[n] = outcome.code;
+        n = done;
+        line = outcome.line;
+    }
+    if 3 * whole < steps.len() {
+        answers[whole] = 13;
+    }
+    line
+}
+
+// The same as `bench_run`, by single checked steps.
+#[no_mangle]
+pub extern "C" fn bench_steps(file: &[u8], steps: &[u8], answers: &mut [u8]) -> u8
+    ensures { λ r. ⌜ r ≡ run checkedStep (now (file .entry)) (now (steps .entry)) (now (answers .entry)) .code ⌝ }
+    ensures { λ r. ⌜ now (answers .exit) ≡ answered checkedStep (now (file .entry)) (now (steps .entry)) (now (answers .entry)) ⌝ }
+{
+    let outcome = reading::read(file);
+    if outcome.code != 0 {
+        return outcome.code;
+    }
+    if answers.len() < engine::steps::count(steps.len()) {
+        return 26;
+    }
+    let line = outcome.line;
+    called(line, steps, answers);
+    0
 }

@@ -93,7 +93,12 @@ fn add_route(file: &[u8], train: u8, out: &mut [u8], filled: usize) -> usize {
 // A space, a code, a colon and bytes.
 fn add_answer(out: &mut [u8], filled: usize, code: u8, bytes: &[u8]) -> usize {
     let spaced = add(out, filled, b' ');
-    let coded = add_decimal(out, spaced, code);
+    add_coded(out, spaced, code, bytes)
+}
+
+// A code, a colon and bytes.
+pub(crate) fn add_coded(out: &mut [u8], filled: usize, code: u8, bytes: &[u8]) -> usize {
+    let coded = add_decimal(out, filled, code);
     let parted = add(out, coded, b':');
     add_hex(out, parted, bytes)
 }

@@ -8,11 +8,12 @@ use reference::argument::argument;
 use reference::atomic::{atomic_order, fold_places, WholeLine};
 use reference::generate::damage::damaged_file;
 use reference::generate::prng::Prng;
-use reference::generate::steps::Driver;
+use reference::generate::steps::{drive, Driver};
 use reference::generate::tables::{accepted_table, largest_table};
 use reference::line::*;
+use reference::numbers::{ends_of_next, line_numbers, recorded};
 use reference::printout::printout;
-use reference::step::{step, step_checked, Step};
+use reference::step::{step_checked, Step};
 use reference::table::Table;
 use reference::table_read::read_table;
 use reference::table_write::{file_bytes, write_table};
@@ -92,18 +93,6 @@ fn steps_text(steps: &[Step]) -> String {
         text.push_str(&format!("{} ∷ ", step_text(bytes)));
     }
     text + "[])"
-}
-
-/// Steps chosen from the line as it stands, with their answers.
-fn drive(rng: &mut Prng, line: &mut Line, steps: usize) -> Vec<(Step, u8)> {
-    let mut driver = Driver::new(rng);
-    let mut events = Vec::new();
-    for _ in 0..steps {
-        let bytes = driver.next_step(rng, line);
-        let answer = step(line, bytes);
-        events.push((bytes, answer));
-    }
-    events
 }
 
 /// An accepted table and a list of steps.
@@ -315,62 +304,7 @@ fn alter(rng: &mut Prng, line: &mut Line) {
     }
 }
 
-/// The next segment of a train, the boxes at its near and far end, and the box ahead.
-fn ends_of_next(line: &Line, i: usize) -> Option<(u8, u8, u8, u8)> {
-    let train = &line.trains[i];
-    let next = train.next_segment()?;
-    let table = &line.table;
-    Some((
-        next,
-        table.near_box(next, train.direction),
-        table.far_box(next, train.direction),
-        line.box_ahead(i),
-    ))
-}
-
-/// What a train has recorded of next: near end, far end, lock of the box ahead.
-fn recorded(line: &Line, i: usize) -> [bool; 3] {
-    let holdings = &line.trains[i].holdings;
-    match ends_of_next(line, i) {
-        None => [false; 3],
-        Some((next, near, far, ahead)) => [
-            holdings.reservation(&line.table, next, near),
-            holdings.reservation(&line.table, next, far),
-            holdings.lock(ahead),
-        ],
-    }
-}
-
-/// State, kind, box and code of a message.
-fn message_numbers(message: Message) -> [u8; 4] {
-    let kind = |request: Request| match request.wish {
-        Wish::Reservation => 1,
-        Wish::Lock => 2,
-    };
-    match message {
-        Message::None => [0; 4],
-        Message::Sent(request) => [1, kind(request), request.number, 0],
-        Message::Answered(request, code) => [2, kind(request), request.number, code],
-    }
-}
-
-/// All trains and boxes of a line as numbers.
-fn line_numbers(line: &Line) -> Vec<u8> {
-    let mut numbers = Vec::new();
-    for (i, train) in line.trains.iter().enumerate() {
-        let place = train.front as u8 + 1;
-        numbers.extend([train.direction, train.route.len() as u8, place, train.covered]);
-        numbers.extend(recorded(line, i).map(u8::from));
-        numbers.extend(message_numbers(train.message));
-    }
-    for state in &line.boxes {
-        numbers.extend([u8::from(state.sensor), state.position, state.lock]);
-        numbers.extend(state.reserved);
-    }
-    numbers
-}
-
-/// The same of an atomic line, which has no messages.
+/// All trains and boxes of an atomic line as numbers; it has no messages.
 fn whole_numbers(table: &Table, whole: &WholeLine) -> Vec<u8> {
     let mut numbers = Vec::new();
     for (entry, train) in table.trains.iter().zip(&whole.trains) {

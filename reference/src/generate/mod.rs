@@ -3,6 +3,7 @@
 
 pub mod damage;
 pub mod draft;
+pub mod made_up;
 pub mod prng;
 pub mod steps;
 pub mod tables;

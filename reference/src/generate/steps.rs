@@ -3,7 +3,7 @@
 
 use super::prng::Prng;
 use crate::line::*;
-use crate::step::Step;
+use crate::step::{step, Step};
 use crate::table::POINT;
 
 /// How the steps are mixed, in percent; the rest is garbage.
@@ -56,6 +56,22 @@ impl Driver {
             garbage(rng, line)
         }
     }
+}
+
+/// Takes so many steps, chosen from the line as it stands; the steps with their codes.
+pub fn drive(rng: &mut Prng, line: &mut Line, count: usize) -> Vec<(Step, u8)> {
+    let mut driver = Driver::new(rng);
+    let mut events = Vec::new();
+    for _ in 0..count {
+        let bytes = driver.next_step(rng, line);
+        events.push((bytes, step(line, bytes)));
+    }
+    events
+}
+
+/// The bytes of steps, in order.
+pub fn step_bytes(events: &[(Step, u8)]) -> Vec<u8> {
+    events.iter().flat_map(|&(bytes, _)| bytes).collect()
 }
 
 /// Whether the train stands at the end of its route.

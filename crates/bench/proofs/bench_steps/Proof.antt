@@ -1,0 +1,54 @@
+-- By the three ends of a run.
+use mathlib.Core.Path.{refl, ap}
+use native.Mathlib.Omega.{arith}
+use borrow.Author.Needs.{needs}
+use Rattle.rules.specs.declared.Outcome.{Outcome}
+use Rattle.rules.specs.Line.{emptyLine}
+use Rattle.rules.specs.Run.{stepCount}
+use Rattle.engine.proofs.Runs.{run-refused, run-short, run-called}
+use Rattle.bench.proofs.bench_steps.Statement.{statement}
+use Rattle.bench.proofs.bench_steps.Tie as tie
+
+returns : tie.Need-returns
+returns c =
+    let read = c .before .before in
+    let args = read .before .before .before .before .args in
+    let refused = run-refused (args .file .now) (args .steps .now) (args .answers .now) _ (read .read .ensures) (c .if1 .taken) in
+    (ap (λ (o : Outcome). o .code) (refused .0), refused .1 .0)
+
+returns-2 : tie.Need-returns-2
+unfolding stepCount
+returns-2 c =
+    let counted = c .before in
+    let read = counted .before .before .before in
+    let args = read .before .before .before .before .args in
+    let short =
+    run-short (args .file .now) (args .steps .now) (args .answers .now) _ (read .read .ensures) (counted .before .if1 .left)
+    (omega (arith, c .if2 .taken, counted .count .ensures)) emptyLine refl in
+    (ap (λ (o : Outcome). o .code) (short .0), short .1 .0)
+
+called-requires : tie.Need-called-requires
+unfolding stepCount
+called-requires c κs = omega (arith, c .before .before .if2 .left, c .before .before .before .count .ensures)
+
+returns-3 : tie.Need-returns-3
+unfolding stepCount
+returns-3 c =
+    let taken = c .before .before in
+    let counts = taken .before .before .before .before in
+    let read = counts .before .before .before in
+    let args = read .before .before .before .before .args in
+    run-called (args .file .now) (args .steps .now) (args .answers .now) _ (read .read .ensures) (counts .before .if1 .left)
+    (omega (arith, taken .before .before .before .if2 .left, counts .count .ensures)) _ (taken .called .ensures .1)
+
+pub bench-steps-spec : {M : Type 1} → statement M
+bench-steps-spec =
+    tie.close
+    (tie.spec
+    (λ c κs. search needs)
+    returns
+    (λ c κs. search needs)
+    returns-2
+    called-requires
+    (λ c. search needs)
+    returns-3)

@@ -1,0 +1,262 @@
+//! Compares another program `line` with this implementation from outside: writes generated files to
+//! `net` in a temporary folder, runs the program there with generated steps on standard input, and
+//! compares what it prints byte by byte. Standard input is a file, or a pipe that brings the steps in
+//! pieces. Prints counts and the number of differences; of the first few differences `net`, `steps`,
+//! `expected` and `printed` are kept in the temporary folder. Exit status 1 where there are any.
+//! Arguments: the program, seed, number of tables.
+
+use reference::argument::argument;
+use reference::generate::damage::damaged_file;
+use reference::generate::prng::Prng;
+use reference::generate::steps::{drive, step_bytes};
+use reference::generate::tables::{accepted_table, largest_table};
+use reference::line::start_line;
+use reference::printout::{printout, MAX_STEPS};
+use reference::table::Table;
+use reference::table_read::read_table;
+use reference::table_write::file_bytes;
+use std::fs::{create_dir, create_dir_all, remove_dir_all, remove_file, write, File};
+use std::io::{Result, Write};
+use std::path::{Path, PathBuf};
+use std::process::{Child, Command, Stdio};
+
+const S: &[u8] = include_bytes!("../../../samples/s/net");
+const S_STEPS: &[u8] = include_bytes!("../../../samples/s/steps");
+/// How many differences are kept.
+const KEPT: usize = 5;
+
+/// What `net` is.
+enum Net {
+    Missing,
+    Directory,
+    Bytes(Vec<u8>),
+}
+
+/// The program under test, its folders, and what has been counted.
+struct Comparison {
+    program: PathBuf,
+    folder: PathBuf,
+    steps: PathBuf,
+    runs: usize,
+    accepted: usize,
+    lists_cut: usize,
+    file_codes: [usize; 13],
+    step_codes: [usize; 28],
+    differences: usize,
+}
+
+fn main() -> Result<()> {
+    let Some(program) = std::env::args_os().nth(1) else {
+        eprintln!("compare_line PROGRAM [SEED TABLES]");
+        std::process::exit(2)
+    };
+    let (seed, tables) = (argument(2, 1), argument(3, 2_000));
+    let root = std::env::temp_dir().join(format!("compare_line_{}", std::process::id()));
+    create_dir_all(root.join("run"))?;
+    let mut comparison = Comparison {
+        program: std::fs::canonicalize(program)?,
+        folder: root.join("run"),
+        steps: root.join("steps"),
+        runs: 0,
+        accepted: 0,
+        lists_cut: 0,
+        file_codes: [0; 13],
+        step_codes: [0; 28],
+        differences: 0,
+    };
+    comparison.files_that_are_none()?;
+    comparison.limits(seed)?;
+    for case in 0..tables {
+        comparison.table(seed, case)?;
+    }
+    comparison.print(seed, tables);
+    if comparison.differences > 0 {
+        eprintln!("the first of them are in {}", root.display());
+        std::process::exit(1)
+    }
+    remove_dir_all(root)
+}
+
+impl Comparison {
+    /// A generated table with a list of steps of any length, and a file damaged from it.
+    fn table(&mut self, seed: u64, case: u64) -> Result<()> {
+        let mut rng = Prng::for_case(seed, case);
+        let table = match case % 10 {
+            9 => largest_table(&mut rng),
+            _ => accepted_table(&mut rng),
+        };
+        let count = match case % 100 {
+            0..=29 => rng.below(6),
+            99 => rng.between(2_000, 20_000),
+            _ => rng.between(6, 600),
+        };
+        let mut steps = driven(&mut rng, &table, count);
+        steps.truncate(steps.len().saturating_sub(rng.pick(&[0, 0, 1, 2])));
+        self.run(&Net::Bytes(file_bytes(&table)), &steps)?;
+        let damaged = damaged_file(&mut rng, &table, (case % 21) as u8);
+        steps.truncate(rng.below(40));
+        self.run(&Net::Bytes(damaged), &steps)
+    }
+
+    /// No file, an empty one, a folder, short and long ones.
+    fn files_that_are_none(&mut self) -> Result<()> {
+        let long = |length: usize| {
+            let mut bytes = S.to_vec();
+            bytes.resize(length, 0);
+            bytes
+        };
+        for steps in [&[][..], S_STEPS] {
+            self.run(&Net::Missing, steps)?;
+            self.run(&Net::Directory, steps)?;
+            for length in [0, 1, 7, 8, 9, 45, 46, 47, 4_095, 4_096, 4_097, 4_791, 4_792, 4_793, 65_536, 100_000] {
+                self.run(&Net::Bytes(long(length)), steps)?;
+            }
+            self.run(&Net::Bytes(longest_file()), steps)?;
+            self.run(&Net::Bytes(vec![0xFF; 100_000]), steps)?;
+        }
+        Ok(())
+    }
+
+    /// Lists about as long as may be, on table S, on tables of the largest size and on a refused file;
+    /// and every front part of the ten steps of table S.
+    fn limits(&mut self, seed: u64) -> Result<()> {
+        for length in 0..=S_STEPS.len() {
+            self.run(&Net::Bytes(S.to_vec()), &S_STEPS[..length])?;
+        }
+        let most = 3 * MAX_STEPS;
+        let s = read_table(S).expect("table S is accepted");
+        let largest = |case| largest_table(&mut Prng::for_case(seed + 1, case));
+        for table in [s, largest(0), largest(1), largest(2)] {
+            let mut rng = Prng::for_case(seed + 2, table.boxes.len() as u64);
+            let steps = driven(&mut rng, &table, 80_000);
+            let net = Net::Bytes(file_bytes(&table));
+            for length in [most - 3, most - 2, most - 1, most, most + 1, most + 2, most + 3, most + 4, steps.len()] {
+                self.run(&net, &steps[..length])?;
+            }
+        }
+        self.run(&Net::Bytes(S[..45].to_vec()), &vec![1; most + 1])
+    }
+
+    /// Runs the program and compares what it prints.
+    fn run(&mut self, net: &Net, steps: &[u8]) -> Result<()> {
+        self.put(net)?;
+        write(&self.steps, steps)?;
+        let file: &[u8] = match net {
+            Net::Bytes(bytes) => bytes,
+            _ => &[],
+        };
+        let expected = printout(file, steps);
+        let mut command = Command::new(&self.program);
+        command.current_dir(&self.folder).stdout(Stdio::piped());
+        let output = match self.runs % 8 {
+            7 => in_pieces(command.stdin(Stdio::piped()).spawn()?, steps)?,
+            _ => command.stdin(File::open(&self.steps)?).output()?,
+        };
+        self.count(file, steps, &expected);
+        if output.stdout != expected || !output.status.success() {
+            self.keep(net, steps, &expected, &output.stdout)?;
+        }
+        self.remove(net)
+    }
+
+    fn put(&self, net: &Net) -> Result<()> {
+        match net {
+            Net::Missing => Ok(()),
+            Net::Directory => create_dir(self.folder.join("net")),
+            Net::Bytes(bytes) => write(self.folder.join("net"), bytes),
+        }
+    }
+
+    fn remove(&self, net: &Net) -> Result<()> {
+        match net {
+            Net::Missing => Ok(()),
+            Net::Directory => remove_dir_all(self.folder.join("net")),
+            Net::Bytes(_) => remove_file(self.folder.join("net")),
+        }
+    }
+
+    /// Counts the codes of the expected text.
+    fn count(&mut self, file: &[u8], steps: &[u8], expected: &[u8]) {
+        self.runs += 1;
+        self.lists_cut += usize::from(expected.ends_with(b"\nmore\n"));
+        if let Err(code) = read_table(file) {
+            self.file_codes[code as usize] += 1;
+            return;
+        }
+        self.file_codes[0] += 1;
+        self.accepted += 1;
+        let text = String::from_utf8_lossy(expected);
+        for line in text.lines().take(steps.len().div_ceil(3).min(MAX_STEPS)) {
+            let code = line.rsplit(' ').next().and_then(|word| word.parse::<usize>().ok());
+            self.step_codes[code.expect("a step line ends in a code")] += 1;
+        }
+    }
+
+    fn keep(&mut self, net: &Net, steps: &[u8], expected: &[u8], printed: &[u8]) -> Result<()> {
+        self.differences += 1;
+        if self.differences > KEPT {
+            return Ok(());
+        }
+        let folder = self.folder.with_file_name(format!("difference_{}", self.differences));
+        create_dir_all(&folder)?;
+        if let Net::Bytes(bytes) = net {
+            write(folder.join("net"), bytes)?;
+        }
+        for (name, bytes) in [("steps", steps), ("expected", expected), ("printed", printed)] {
+            write(Path::new(&folder).join(name), bytes)?;
+        }
+        Ok(())
+    }
+
+    fn print(&self, seed: u64, tables: u64) {
+        let steps: usize = self.step_codes.iter().sum();
+        println!("seed {seed}: {tables} tables, {} runs, {} of them with an accepted file", self.runs, self.accepted);
+        println!("{steps} steps taken, {} lists cut at {MAX_STEPS}", self.lists_cut);
+        println!("code  files");
+        for (code, count) in self.file_codes.iter().enumerate() {
+            println!("{code:4} {count:8}");
+        }
+        println!("code  steps");
+        for code in std::iter::once(0).chain(13..=25) {
+            println!("{code:4} {:8}", self.step_codes[code]);
+        }
+        println!("{} differences", self.differences);
+    }
+}
+
+/// Gives the program its input through a pipe, in pieces of uneven length.
+fn in_pieces(mut child: Child, steps: &[u8]) -> Result<std::process::Output> {
+    let mut stdin = child.stdin.take().expect("the input is a pipe");
+    let steps = steps.to_vec();
+    let writer = std::thread::spawn(move || {
+        let size = 1 + steps.len() / 7;
+        for piece in steps.chunks(size) {
+            // A program that has read enough may be gone.
+            if stdin.write_all(piece).is_err() {
+                return;
+            }
+            std::thread::yield_now();
+        }
+    });
+    let output = child.wait_with_output();
+    writer.join().expect("the writer ends");
+    output
+}
+
+/// The bytes of steps chosen from the line as it stands.
+fn driven(rng: &mut Prng, table: &Table, count: usize) -> Vec<u8> {
+    step_bytes(&drive(rng, &mut start_line(table), count))
+}
+
+/// A file of 4,792 bytes, the longest that code 5 lets through: 96 segments and boxes, 16 trains with
+/// route lengths of 255.
+fn longest_file() -> Vec<u8> {
+    let mut file = vec![0x4E, 0x45, 0x54, 0, 1, 96, 96, 16];
+    file.resize(8 + 2 * 96 + 5 * 96, 1);
+    for _ in 0..16 {
+        file.extend([0, 255]);
+        file.extend([1; 255]);
+    }
+    assert_eq!(file.len(), 4_792);
+    file
+}

@@ -1,0 +1,219 @@
+//! A corpus under way: its records, the text for them, and what has been counted.
+
+use reference::generate::made_up::{Aim, AIMS};
+use reference::line::{start_line, Line};
+use reference::line_check::record_code;
+use reference::numbers::line_numbers;
+use reference::numbers::TRAIN_NUMBERS;
+use reference::record::{Change, Record};
+use reference::step::{step, step_checked, Step};
+use reference::table::Table;
+use reference::table_read::{read_table, route_in_file};
+use reference::table_write::{file_bytes, write_table};
+use std::fmt::Write;
+
+pub const S: &[u8] = include_bytes!("../../../../samples/s/net");
+pub const SEED: u64 = 1;
+/// How many files of the damaged part have each code 1 to 12 at least.
+pub const FEWEST: usize = 10;
+/// What a lent buffer holds before a run.
+const UNUSED: u8 = 0x77;
+
+/// How many files have each code 0 to 12.
+pub type Counts = [usize; 13];
+/// How many steps have each code 0 to 27.
+pub type StepCounts = [usize; 28];
+
+/// A list of steps with the file that it runs on.
+pub struct Run {
+    pub file: Vec<u8>,
+    pub steps: Vec<u8>,
+}
+
+/// A step on a made-up record.
+#[cfg_attr(not(test), allow(dead_code))]
+pub struct MadeUp {
+    pub record: Record,
+    pub step: Step,
+}
+
+/// The corpus.
+#[derive(Default)]
+pub struct Corpus {
+    pub records: Vec<u8>,
+    pub text: String,
+    pub base: Vec<u8>,
+    pub files: Vec<Vec<u8>>,
+    pub runs: Vec<Run>,
+    pub made_up: Vec<MadeUp>,
+    pub counts: Counts,
+    /// Codes of the steps of lists, and of those on made-up records.
+    pub list_codes: StepCounts,
+    pub made_up_codes: StepCounts,
+    /// How many made-up records have each aim.
+    pub aims: [usize; AIMS.len()],
+    steps: Vec<u8>,
+}
+
+impl Corpus {
+    pub fn file(&mut self, bytes: &[u8]) {
+        self.records.push(b'F');
+        self.number(bytes.len());
+        self.records.extend_from_slice(bytes);
+        self.base = bytes.to_vec();
+        self.steps.clear();
+        self.decide(self.base.clone());
+    }
+
+    pub fn table(&mut self, table: &Table) {
+        self.file(&file_bytes(table));
+    }
+
+    pub fn prefix(&mut self, length: usize) {
+        self.records.push(b'P');
+        self.number(length);
+        self.decide(self.base[..length].to_vec());
+    }
+
+    pub fn change(&mut self, place: usize, value: u8) {
+        self.records.push(b'C');
+        self.number(place);
+        self.records.push(value);
+        let mut bytes = self.base.clone();
+        bytes[place] = value;
+        self.decide(bytes);
+    }
+
+    /// A list of steps, by its bytes, for the base file.
+    pub fn steps(&mut self, steps: &[u8]) {
+        self.records.push(b'S');
+        self.number(steps.len());
+        self.records.extend_from_slice(steps);
+        self.steps = steps.to_vec();
+        let run = Run { file: self.base.clone(), steps: steps.to_vec() };
+        let answers = run_text(&mut self.text, &run);
+        for code in answers {
+            self.list_codes[code as usize] += 1;
+        }
+        self.runs.push(run);
+    }
+
+    /// The line that the first `taken` bytes of the last list of steps lead to from the base file.
+    pub fn line_after(&self, taken: usize) -> Line {
+        let table = read_table(&self.base).expect("the base file is accepted");
+        run_steps(&table, &self.steps[..taken]).0
+    }
+
+    /// A step on this line with changes.
+    pub fn made_up(&mut self, taken: usize, changes: &[Change], bytes: Step, aim: Aim) {
+        self.records.push(b'M');
+        self.number(taken);
+        self.records.push(u8::try_from(changes.len()).expect("a number of changes has one byte"));
+        self.records.extend(changes.concat());
+        self.records.extend(bytes);
+        let mut record = Record::of(&self.line_after(taken));
+        changes.iter().for_each(|&change| record.change(change));
+        let code = made_up_text(&mut self.text, &record, bytes);
+        self.made_up_codes[code as usize] += 1;
+        self.aims[AIMS.iter().position(|&a| a == aim).expect("all aims are listed")] += 1;
+        self.made_up.push(MadeUp { record, step: bytes });
+    }
+
+    fn number(&mut self, number: usize) {
+        let number = u16::try_from(number).expect("lengths and places have two bytes");
+        self.records.extend_from_slice(&number.to_be_bytes());
+    }
+
+    fn decide(&mut self, bytes: Vec<u8>) {
+        let code = read_table(&bytes).err().unwrap_or(0);
+        self.counts[code as usize] += 1;
+        self.text.push_str(&file_text(&bytes));
+        self.files.push(bytes);
+    }
+}
+
+/// The line of the text for a file.
+fn file_text(bytes: &[u8]) -> String {
+    let table = match read_table(bytes) {
+        Err(code) => return format!("{code}\n"),
+        Ok(table) => table,
+    };
+    let mut line = String::from("0");
+    let mut buffer = vec![0; bytes.len()];
+    let code = write_table(&table, &mut buffer).err().unwrap_or(0);
+    write!(line, " {code}:{}", hex(&buffer)).unwrap();
+    let code = write_table(&table, &mut buffer[1..]).err().unwrap_or(0);
+    write!(line, " {code}").unwrap();
+    let last = table.trains.len() + 1;
+    for train in 0..=last {
+        if bytes.len() < 60 || train == 1 || train == last {
+            let route = route_in_file(bytes, train as u8);
+            let code = if route.is_some() { 0 } else { 14 };
+            write!(line, " {code}:{}", hex(route.unwrap_or(&[]))).unwrap();
+        }
+    }
+    line + "\n"
+}
+
+/// The line after the steps in these bytes, and the answers, a last step of one or two bytes among them.
+fn run_steps(table: &Table, steps: &[u8]) -> (Line, Vec<u8>) {
+    let mut line = start_line(table);
+    let answer = |bytes: &[u8]| match bytes.try_into() {
+        Ok(whole) => step(&mut line, whole),
+        Err(_) => 13,
+    };
+    let answers = steps.chunks(3).map(answer).collect();
+    (line, answers)
+}
+
+/// The line of the text for a list of steps; its answers.
+fn run_text(text: &mut String, run: &Run) -> Vec<u8> {
+    let count = run.steps.len().div_ceil(3);
+    let (code, line, answers) = match read_table(&run.file) {
+        Err(code) => (code, Line::default(), vec![]),
+        Ok(table) => {
+            let (line, answers) = run_steps(&table, &run.steps);
+            (0, line, answers)
+        }
+    };
+    let mut buffer = answers.clone();
+    buffer.resize(count + 1, UNUSED);
+    write!(text, "{code}:{} ", hex(&buffer)).unwrap();
+    add_line(text, &line);
+    if count > 0 {
+        // The buffer is too short, which is looked at after the file.
+        let code = if code == 0 { 26 } else { code };
+        write!(text, " {code}:{} :", hex(&vec![UNUSED; count - 1])).unwrap();
+    }
+    text.push('\n');
+    answers
+}
+
+/// Trains and boxes of a line.
+fn add_line(text: &mut String, line: &Line) {
+    let numbers = line_numbers(line);
+    let (trains, boxes) = numbers.split_at(TRAIN_NUMBERS * line.trains.len());
+    write!(text, "{}:{}", hex(trains), hex(boxes)).unwrap();
+}
+
+/// The line of the text for a step on a made-up record; its code.
+fn made_up_text(text: &mut String, record: &Record, bytes: Step) -> u8 {
+    let before = record.line();
+    let mut line = before.clone();
+    let code = step_checked(&mut line, bytes);
+    write!(text, "{code} ").unwrap();
+    if record_code(&before) == 0 {
+        add_line(text, &line);
+    } else {
+        // The record is as it was, with what it has of a next segment that is not there.
+        assert_eq!(line, before);
+        let [trains, boxes] = record.numbers();
+        write!(text, "{}:{}", hex(&trains), hex(&boxes)).unwrap();
+    }
+    text.push('\n');
+    code
+}
+
+fn hex(bytes: &[u8]) -> String {
+    bytes.iter().map(|b| format!("{b:02x}")).collect()
+}

@@ -1,0 +1,234 @@
+//! The lists of steps and the made-up records of the corpus.
+
+use crate::corpus::{Corpus, S, SEED};
+use reference::generate::made_up::{changes, step_on, Aim, AIMS};
+use reference::generate::prng::Prng;
+use reference::generate::steps::{drive, step_bytes};
+use reference::generate::tables::{accepted_table, largest_table};
+use reference::line::{start_line, Line};
+use reference::line_check::record_fault;
+use reference::record::{Change, Record};
+use reference::step::Step;
+use reference::table::*;
+use reference::table_read::read_table;
+
+const S_STEPS: &[u8] = include_bytes!("../../../../samples/s/steps");
+/// Codes that few lists have, and how many steps have each of them at least.
+const RARE: [u8; 3] = [23, 24, 18];
+const FEWEST_RARE: usize = 30;
+/// How many made-up records each aim has at least; how many tables there are for them at
+/// least, and how many records pass for each.
+pub const FEWEST_AIMED: usize = 6;
+const TABLES: u64 = 16;
+const PASSING: usize = 28;
+
+/// A request, its answer, and the answer heard.
+fn asked(kind: u8, train: u8, number: u8) -> Vec<u8> {
+    vec![kind, train, number, 3, train, 0, 4, train, 0]
+}
+
+/// Lists for table S and its track with other trains: every front part of the ten steps of its
+/// printout, and the paper's cases.
+pub fn paper_lists(corpus: &mut Corpus) {
+    corpus.file(S);
+    for length in 0..=S_STEPS.len() {
+        corpus.steps(&S_STEPS[..length]);
+    }
+    let passage = [asked(1, 1, 2), asked(1, 1, 3), asked(2, 1, 2), vec![5, 1, 0, 6, 1, 0]].concat();
+    corpus.steps(&passage);
+    records_of_s(corpus);
+    corpus.steps(&[asked(1, 1, 2), vec![1, 1, 2, 1, 1, 4]].concat());
+    let with = |corpus: &mut Corpus, trains: &[(u8, &[u8])], steps: &[u8]| {
+        let mut table = read_table(S).expect("table S is accepted");
+        table.trains = trains.iter().map(|&(direction, r)| TrainEntry { direction, route: r.to_vec() }).collect();
+        corpus.table(&table);
+        corpus.steps(steps);
+    };
+    with(corpus, &[(0, &[1, 2, 4]), (1, &[4, 2, 1])], &[asked(1, 1, 2), asked(1, 2, 2)].concat());
+    let contest = [asked(1, 1, 3), asked(1, 1, 4), asked(2, 1, 3), asked(2, 2, 3), vec![5, 1, 0], asked(2, 2, 3)];
+    with(corpus, &[(0, &[2, 4]), (0, &[3, 4])], &contest.concat());
+    with(corpus, &[(0, &[1])], &[5, 1, 0, 6, 1, 0]);
+    with(corpus, &[], &[1, 1, 1, 5, 1, 0, 0, 0, 0, 3]);
+    // A refused file: the buffer stays, whatever the steps.
+    corpus.file(&S[..45]);
+    corpus.steps(S_STEPS);
+    corpus.steps(&[]);
+    corpus.file(&[]);
+    corpus.steps(&S_STEPS[..4]);
+}
+
+/// Made-up records of train 1's passage over box 2 of table S that pass 27: what the box answers, and
+/// what a move does, where no list of steps leads.
+fn records_of_s(corpus: &mut Corpus) {
+    let lock = [b'm', 0, 2, 2];
+    let reserve = [b'm', 0, 1, 2];
+    let sensor = [b'b', 1, 0, 1];
+    let locked = |train: u8| [b'b', 1, 2, train];
+    let front = |train: u8| [b'b', 1, 3, train];
+    let next = |train: u8| [b'b', 1, 4, train];
+    let other = |train: u8| [b'b', 1, 5, train];
+    let (near, far, own) = ([b't', 0, 4, 1], [b't', 0, 5, 1], [b't', 0, 6, 1]);
+    let answer: Step = [3, 1, 0];
+    let enter: Step = [5, 1, 0];
+    let clear: Step = [6, 1, 0];
+    let records: [(usize, &[Change], Step); 20] = [
+        // A lock: 23 before 24 before 25; front and next both count; what is the train's own is a yes.
+        (9, &[lock], answer),
+        (9, &[lock, sensor], answer),
+        (9, &[lock, locked(2)], answer),
+        (9, &[lock, locked(1)], answer),
+        (9, &[lock, sensor, locked(2)], answer),
+        (0, &[lock, locked(2)], answer),
+        (0, &[lock, sensor], answer),
+        (9, &[lock, front(0)], answer),
+        (9, &[lock, front(2)], answer),
+        (9, &[lock, next(0)], answer),
+        (9, &[lock, next(2)], answer),
+        // A reservation.
+        (0, &[reserve, next(1)], answer),
+        (0, &[reserve, next(2)], answer),
+        (0, &[reserve, next(0), other(2)], answer),
+        // Enter asks the train's records alone, and no message stops it.
+        (0, &[near, far, own, locked(2), sensor], enter),
+        (0, &[near, far, own, reserve], enter),
+        (0, &[near, far], enter),
+        (0, &[near, own], enter),
+        // Clear frees lock and both segments whoever holds them, and not the third.
+        (30, &[locked(2), front(2), next(2), other(2)], clear),
+        (30, &[other(1)], clear),
+    ];
+    for (taken, changes, bytes) in records {
+        assert!(made_up_line(&corpus.line_after(taken), changes).is_some_and(|line| record_fault(&line).is_none()));
+        corpus.made_up(taken, changes, bytes, Aim::Nothing);
+    }
+}
+
+/// Lists of generated steps on generated tables, one in twelve with 96 segments and 16 trains; then
+/// further ones for the codes that are rare.
+pub fn generated_lists(corpus: &mut Corpus) {
+    for case in 0..48 {
+        let mut rng = Prng::for_case(SEED + 2, case);
+        let table = match case % 12 {
+            11 => largest_table(&mut rng),
+            _ => sized_table(&mut rng, 24),
+        };
+        corpus.table(&table);
+        let count = if case % 12 == 11 { 300 } else { 90 };
+        let mut steps = step_bytes(&driven(&mut rng, &table, count));
+        // One in three ends in a step of one or two bytes.
+        steps.truncate(steps.len() - rng.pick(&[0, 0, 0, 0, 1, 2]));
+        corpus.steps(&steps);
+    }
+    let mut case = 1_000;
+    while RARE.iter().any(|&code| corpus.list_codes[code as usize] < FEWEST_RARE) {
+        let mut rng = Prng::for_case(SEED + 2, case);
+        case += 1;
+        let table = sized_table(&mut rng, 24);
+        let events = driven(&mut rng, &table, 90);
+        let rare = |&(_, code): &(Step, u8)| RARE.contains(&code) && corpus.list_codes[code as usize] < FEWEST_RARE;
+        if let Some(last) = events.iter().rposition(rare) {
+            corpus.table(&table);
+            corpus.steps(&step_bytes(&events[..=last]));
+        }
+    }
+}
+
+/// An accepted table with at least two trains and at most so many boxes.
+fn sized_table(rng: &mut Prng, boxes: usize) -> Table {
+    loop {
+        let table = accepted_table(rng);
+        if table.trains.len() > 1 && table.trains.len() < 7 && table.boxes.len() <= boxes {
+            return table;
+        }
+    }
+}
+
+/// Steps from the start of a table on, with their codes.
+fn driven(rng: &mut Prng, table: &Table, count: usize) -> Vec<(Step, u8)> {
+    drive(rng, &mut start_line(table), count)
+}
+
+/// Made-up records on lines of small tables until each aim has enough of them, then some on a table
+/// of the largest size.
+pub fn made_up_records(corpus: &mut Corpus) {
+    let mut case = 0;
+    while case < TABLES || corpus.aims.iter().any(|&count| count < FEWEST_AIMED) {
+        let mut rng = Prng::for_case(SEED + 3, case);
+        case += 1;
+        let table = sized_table(&mut rng, 10);
+        let line = start_line(&table);
+        let wanted = |i: &usize| corpus.aims[*i] < FEWEST_AIMED;
+        if case > TABLES && (0..AIMS.len()).filter(wanted).all(|i| changes(&mut rng, &line, AIMS[i]).is_none()) {
+            continue;
+        }
+        corpus.table(&table);
+        corpus.steps(&step_bytes(&driven(&mut rng, &table, 30)));
+        for (place, aim) in AIMS.into_iter().enumerate() {
+            if aim == Aim::Nothing && case <= TABLES {
+                (0..PASSING).for_each(|_| try_aim(&mut rng, corpus, 90, aim));
+            } else if corpus.aims[place] < FEWEST_AIMED + 2 {
+                try_aim(&mut rng, corpus, 90, aim);
+            }
+        }
+    }
+    let mut rng = Prng::for_case(SEED + 3, 1_000);
+    let table = largest_table(&mut rng);
+    corpus.table(&table);
+    corpus.steps(&step_bytes(&driven(&mut rng, &table, 200)));
+    last_records(corpus);
+    (0..6).for_each(|_| try_aim(&mut rng, corpus, 600, Aim::Nothing));
+}
+
+/// Adds a made-up record for an aim, if one is found in some tries. All but the part that the changes
+/// are about is as steps have left it.
+fn try_aim(rng: &mut Prng, corpus: &mut Corpus, most: usize, aim: Aim) {
+    for _ in 0..60 {
+        let taken = 3 * rng.below(most / 3 + 1);
+        let before = corpus.line_after(taken);
+        let Some(changes) = changes(rng, &before, aim).filter(|changes| !changes.is_empty()) else {
+            continue;
+        };
+        let Some(line) = made_up_line(&before, &changes) else {
+            continue;
+        };
+        if record_fault(&line) == aim.clause() {
+            let bytes = step_on(rng, if aim == Aim::Nothing { &line } else { &before }, &changes);
+            corpus.made_up(taken, &changes, bytes, aim);
+            return;
+        }
+    }
+}
+
+/// The line with changes; `None` where this implementation has no such record.
+fn made_up_line(before: &Line, changes: &[Change]) -> Option<Line> {
+    let mut record = Record::of(before);
+    changes.iter().for_each(|&change| record.change(change));
+    let line = record.line();
+    let same = record_fault(&line).is_some() || Record::of(&line).numbers() == record.numbers();
+    same.then_some(line)
+}
+
+/// Faults in the last box and the last train of a table of the largest size, and in the records after
+/// them, which are not looked at.
+fn last_records(corpus: &mut Corpus) {
+    let line = corpus.line_after(0);
+    let (m, k) = (line.boxes.len() as u8, line.trains.len() as u8);
+    let whole: Step = [3, 1, 0];
+    for (change, aim) in [
+        ([b'b', m - 1, 2, k + 1], Aim::LockHolder),
+        ([b'b', m - 1, 3, k + 1], Aim::StemHolder),
+        ([b'b', m - 1, 1, 3], Aim::Position),
+        ([b't', k - 1, 3, 0], Aim::CoversNone),
+        ([b't', k - 1, 2, 0], Aim::PlaceZero),
+        ([b't', k - 1, 3, 2], Aim::TailOutside),
+        ([b'b', m, 2, k + 1], Aim::Nothing),
+        ([b'b', m - 1, 2, k], Aim::Nothing),
+    ] {
+        if change[1] >= 96 {
+            continue;
+        }
+        let made = made_up_line(&line, &[change]).expect("this implementation has the record");
+        assert_eq!(record_fault(&made), aim.clause());
+        corpus.made_up(0, &[change], whole, aim);
+    }
+}

@@ -1,0 +1,176 @@
+//! Makes the corpus of the program `cases` and the text that it must write, with this
+//! implementation alone. The argument is a directory: the corpus goes to its file `stdin`, the text
+//! to its file `stdout`, and what they hold to standard error.
+//!
+//! The corpus is a list of records. Numbers of two bytes have the high byte first.
+//!
+//! | Record | What it asks |
+//! |---|---|
+//! | `F`, length (2), bytes | to decide the file of these bytes, from now on the base file |
+//! | `P`, length (2) | to decide as many first bytes of the base file |
+//! | `C`, place (2), byte | to decide the base file with the byte at this place, from 0, changed |
+//! | `S`, length (2), bytes | to run the base file with the steps of these bytes, from now on the list of steps |
+//! | `M`, taken (2), number (1), as many changes (4), step (3) | to take a step on a made-up line: the line that the first `taken` bytes of the list of steps lead to, with these changes |
+//!
+//! A change is four bytes, as `record.rs` says.
+//!
+//! The text has a line for each record: answers, with a space between them. An answer is a code and,
+//! where bytes come with it, a colon and the bytes in hexadecimal.
+//! - A file that is refused has the reader's code. An accepted one has the reader's code, the writer's
+//!   code and bytes for a buffer as long as the file, its code for a buffer one byte shorter, and code
+//!   and route of the trains 0 to k + 1; of the trains 1 and k + 1 only where the file has 60 bytes or
+//!   more.
+//! - A list of steps has the run's code, the whole buffer lent for the answers, one byte longer than
+//!   they are and filled with 77 before, and the line. Where there are steps, the same follows for a
+//!   buffer one byte too short.
+//! - A made-up line has the step's code, and the line.
+//!
+//! A line is its trains (direction, length, place, covered, near, far, lock; the message's state, kind,
+//! box and code), a colon, and its boxes (sensor, position, lock, holders at stem, left and right), in
+//! hexadecimal. Beside a refused run it is empty.
+
+mod corpus;
+mod files;
+mod lines;
+
+use corpus::{Corpus, Counts, FEWEST};
+use lines::FEWEST_AIMED;
+use reference::generate::made_up::AIMS;
+use std::path::Path;
+
+/// The most bytes of the corpus, of one of its files, and of the text.
+const MOST_CORPUS: usize = 260_000;
+const MOST_FILE: usize = 4_800;
+const MOST_TEXT: usize = 600_000;
+/// How many steps of lists have each code 0 and 13 to 25 at least.
+const FEWEST_STEPS: usize = 20;
+
+/// The codes of steps.
+fn step_codes() -> impl Iterator<Item = usize> {
+    std::iter::once(0).chain(13..=25)
+}
+
+/// The corpus, and how many files of its damaged part have each code.
+fn make() -> (Corpus, Counts) {
+    let mut corpus = Corpus::default();
+    files::table_s(&mut corpus);
+    files::accepted(&mut corpus);
+    let before = corpus.counts;
+    files::by_hand(&mut corpus);
+    files::damaged(&mut corpus);
+    let mut aimed = corpus.counts;
+    for (count, sooner) in aimed.iter_mut().zip(before) {
+        *count -= sooner;
+    }
+    lines::paper_lists(&mut corpus);
+    lines::generated_lists(&mut corpus);
+    lines::made_up_records(&mut corpus);
+    (corpus, aimed)
+}
+
+/// What is amiss with a corpus, if anything.
+fn fault(corpus: &Corpus, aimed: &Counts) -> Option<String> {
+    let missed = (1..=12).find(|&code| aimed[code] < FEWEST);
+    let rare = step_codes().find(|&code| corpus.list_codes[code] < FEWEST_STEPS);
+    let unaimed = (0..AIMS.len()).find(|&i| corpus.aims[i] < FEWEST_AIMED);
+    match missed {
+        Some(code) => Some(format!("code {code} has {} damaged files", aimed[code])),
+        None if rare.is_some() => Some(format!("code {} has too few steps", rare?)),
+        None if unaimed.is_some() => Some(format!("{:?} has too few made-up records", AIMS[unaimed?])),
+        None if corpus.counts[0] == 0 => Some("no file is accepted".into()),
+        None if corpus.files.iter().any(|f| f.len() > MOST_FILE) => Some("a file is too long".into()),
+        None if corpus.records.len() > MOST_CORPUS => Some("the corpus is too long".into()),
+        None if corpus.text.len() > MOST_TEXT => Some("the text is too long".into()),
+        None => None,
+    }
+}
+
+fn main() -> std::io::Result<()> {
+    let Some(directory) = std::env::args().nth(1) else {
+        eprintln!("make_corpus DIRECTORY");
+        std::process::exit(2)
+    };
+    let (corpus, aimed) = make();
+    print_counts(&corpus, &aimed);
+    if let Some(fault) = fault(&corpus, &aimed) {
+        eprintln!("{fault}");
+        std::process::exit(1)
+    }
+    std::fs::write(Path::new(&directory).join("stdin"), &corpus.records)?;
+    std::fs::write(Path::new(&directory).join("stdout"), &corpus.text)
+}
+
+fn print_counts(corpus: &Corpus, aimed: &Counts) {
+    let (files, lists, made_up) = (corpus.files.len(), corpus.runs.len(), corpus.made_up.len());
+    let steps: usize = corpus.list_codes.iter().sum();
+    eprintln!("{files} files decided, {lists} lists with {steps} steps, {made_up} made-up records");
+    eprintln!("corpus {} bytes, text {} bytes", corpus.records.len(), corpus.text.len());
+    eprintln!("code  files  damaged part");
+    for (code, (count, aimed)) in corpus.counts.iter().zip(aimed).enumerate() {
+        eprintln!("{code:4} {count:6} {aimed:6}");
+    }
+    eprintln!("code  steps of lists, on made-up records");
+    for code in step_codes().chain([27]) {
+        eprintln!("{code:4} {:6} {:6}", corpus.list_codes[code], corpus.made_up_codes[code]);
+    }
+    eprintln!("made-up records by what they break");
+    for (aim, count) in AIMS.iter().zip(corpus.aims) {
+        eprintln!("{:12} {count:6}", format!("{aim:?}"));
+    }
+}
+
+#[cfg(test)]
+mod tests {
+    use super::*;
+    use reference::fault::{Fault, FAULTS};
+    use reference::line::start_line_with;
+    use reference::line_check::record_code;
+    use reference::numbers::line_numbers;
+    use reference::step::{step_with, Step};
+    use reference::table_read::{read_table, read_table_with};
+
+    #[test]
+    fn every_code_is_there() {
+        let (corpus, aimed) = make();
+        assert_eq!(fault(&corpus, &aimed), None);
+        let records = corpus.files.len() + corpus.runs.len() + corpus.made_up.len();
+        assert_eq!(corpus.text.lines().count(), records);
+    }
+
+    /// Each fault of the reader changes the code of some file.
+    #[test]
+    fn every_reader_fault_shows() {
+        let (corpus, _) = make();
+        for &fault in FAULTS.iter().filter(|fault| fault.in_reader()) {
+            let differs = |f: &&Vec<u8>| read_table_with(f, fault).err() != read_table(f).err();
+            let count = corpus.files.iter().filter(differs).count();
+            println!("{fault:?} {count}");
+            assert!(count > 0, "{fault:?}");
+        }
+    }
+
+    /// Each fault of the steps changes the text of some list or made-up record, but for records kept at
+    /// Clear, which no step tells, and 16 before 15, which no record that passes 27 tells.
+    #[test]
+    fn every_step_fault_shows() {
+        let (corpus, _) = make();
+        for &fault in FAULTS.iter().filter(|fault| !fault.in_reader()) {
+            let run = |run: &corpus::Run, fault: Fault| {
+                let mut line = start_line_with(&read_table(&run.file).ok()?, fault);
+                let whole = run.steps.chunks_exact(3).map(|s| -> Step { s.try_into().unwrap() });
+                let codes: Vec<u8> = whole.map(|bytes| step_with(&mut line, bytes, fault)).collect();
+                Some((codes, line_numbers(&line)))
+            };
+            let made = |made: &corpus::MadeUp, fault: Fault| {
+                let mut line = made.record.line();
+                let holds = record_code(&line) == 0;
+                holds.then(|| (step_with(&mut line, made.step, fault), line_numbers(&line)))
+            };
+            let lists = corpus.runs.iter().filter(|r| run(r, fault) != run(r, Fault::None)).count();
+            let records = corpus.made_up.iter().filter(|m| made(m, fault) != made(m, Fault::None)).count();
+            println!("{fault:?} {lists} {records}");
+            let untold = matches!(fault, Fault::RecordsKept | Fault::NextBeforeMessage);
+            assert_eq!(lists + records > 0, !untold, "{fault:?}");
+        }
+    }
+}

@@ -1,0 +1,398 @@
+//! Made-up records: changes of a line that steps have reached, directed at one clause of code 27 or
+//! at none. What comes out has to be looked at: a change may miss its aim.
+
+use super::prng::Prng;
+use crate::line::*;
+use crate::line_check::RecordFault;
+use crate::numbers::ends_of_next;
+use crate::record::Change;
+use crate::step::Step;
+use crate::table::*;
+
+/// What a made-up record is to break.
+#[derive(Clone, Copy, Debug, PartialEq, Eq)]
+pub enum Aim {
+    /// The table part, with this code.
+    Table(u8),
+    /// A train's direction as it stands.
+    Direction,
+    /// A train's route length as it stands.
+    Length,
+    /// A segment of a train's route as it stands that the table lacks.
+    Route,
+    /// A train's route as it stands jumps, in this direction.
+    Jump(u8),
+    PlaceZero,
+    PlaceBeyond,
+    TailOutside,
+    CoversNone,
+    CoversThree,
+    Position,
+    /// A holder above k: of the lock, or at a place.
+    LockHolder,
+    StemHolder,
+    LeftHolder,
+    RightHolder,
+    /// A message of a train with no next (16).
+    NoNext,
+    /// A message for a box that 17 would stop, sent or answered.
+    WrongBox,
+    /// An answer's code that is none of the box's.
+    AnswerCode,
+    /// Nothing: the record passes.
+    Nothing,
+}
+
+pub const AIMS: [Aim; 28] = [
+    Aim::Table(3),
+    Aim::Table(4),
+    Aim::Table(6),
+    Aim::Table(7),
+    Aim::Table(8),
+    Aim::Table(9),
+    Aim::Table(10),
+    Aim::Table(11),
+    Aim::Table(12),
+    Aim::Direction,
+    Aim::Length,
+    Aim::Route,
+    Aim::Jump(0),
+    Aim::Jump(1),
+    Aim::PlaceZero,
+    Aim::PlaceBeyond,
+    Aim::TailOutside,
+    Aim::CoversNone,
+    Aim::CoversThree,
+    Aim::Position,
+    Aim::LockHolder,
+    Aim::StemHolder,
+    Aim::LeftHolder,
+    Aim::RightHolder,
+    Aim::NoNext,
+    Aim::WrongBox,
+    Aim::AnswerCode,
+    Aim::Nothing,
+];
+
+impl Aim {
+    /// The clause of 27 that the record is to break first.
+    pub fn clause(self) -> Option<RecordFault> {
+        Some(match self {
+            Aim::Table(code) => RecordFault::TablePart(code),
+            Aim::Direction | Aim::Length => RecordFault::Route(10),
+            Aim::Route | Aim::Jump(_) => RecordFault::Route(11),
+            Aim::PlaceZero | Aim::PlaceBeyond | Aim::TailOutside => RecordFault::OutsideRoute,
+            Aim::CoversNone | Aim::CoversThree => RecordFault::Covering,
+            Aim::Position => RecordFault::Position,
+            Aim::LockHolder | Aim::StemHolder | Aim::LeftHolder | Aim::RightHolder => RecordFault::Holder,
+            Aim::NoNext | Aim::WrongBox => RecordFault::Message,
+            Aim::AnswerCode => RecordFault::AnswerCode,
+            Aim::Nothing => return None,
+        })
+    }
+}
+
+/// Changes of the line for an aim; `None` where it has nothing to change for it. At most one field
+/// is at fault, but where a fault needs more.
+pub fn changes(rng: &mut Prng, line: &Line, aim: Aim) -> Option<Vec<Change>> {
+    if let Aim::Table(code) = aim {
+        return table_changes(rng, &line.table, code);
+    }
+    let m = line.boxes.len();
+    let k = line.trains.len();
+    let b = rng.below(m) as u8;
+    let above = rng.pick(&[k as u8 + 1, 255]);
+    if let Some(field) = match aim {
+        Aim::LockHolder => Some(2),
+        Aim::StemHolder => Some(3),
+        Aim::LeftHolder => Some(4),
+        Aim::RightHolder => Some(5),
+        _ => None,
+    } {
+        return Some(vec![[b'b', b, field, above]]);
+    }
+    if aim == Aim::Position {
+        let wrong: &[u8] = match line.table.boxes[b as usize].kind {
+            POINT => &[0, 3, 255],
+            _ => &[1, 2, 255],
+        };
+        return Some(vec![[b'b', b, 1, rng.pick(wrong)]]);
+    }
+    if aim == Aim::Nothing {
+        return Some(harmless(rng, line));
+    }
+    let fitting: Vec<usize> = (0..k).filter(|&i| fits(line, i, aim)).collect();
+    let i = *fitting.get(rng.below(fitting.len()))?;
+    Some(train_changes(rng, line, i, aim))
+}
+
+/// Whether the train is one that the aim can be had of, with nothing else at fault.
+fn fits(line: &Line, i: usize, aim: Aim) -> bool {
+    let train = &line.trains[i];
+    let idle = train.message == Message::None;
+    match aim {
+        // Another direction is read as back, so that the route still follows then.
+        Aim::Direction => idle && (train.direction == 1 || train.route.len() == 1),
+        Aim::Route => train.route.len() > train.front + 2,
+        Aim::Jump(direction) => train.direction == direction && train.route.len() > train.front + 2,
+        Aim::PlaceBeyond => idle && train.covered == 1,
+        Aim::PlaceZero | Aim::Length => idle,
+        Aim::TailOutside => train.front == 0,
+        Aim::CoversThree => idle && train.route.len() >= 3,
+        Aim::WrongBox | Aim::AnswerCode => train.next_segment().is_some(),
+        _ => true,
+    }
+}
+
+fn train_changes(rng: &mut Prng, line: &Line, i: usize, aim: Aim) -> Vec<Change> {
+    let train = &line.trains[i];
+    let (t, n, m) = (i as u8, line.table.segments.len(), line.boxes.len());
+    let length = train.route.len() as u8;
+    match aim {
+        Aim::Direction => vec![[b't', t, 0, rng.pick(&[2, 3, 255])]],
+        Aim::Length => vec![[b't', t, 1, rng.pick(&[0, 65, 128, 255])]],
+        Aim::Route | Aim::Jump(_) => {
+            let place = rng.between(train.front + 2, train.route.len() - 1) as u8;
+            let segment = match aim {
+                Aim::Route => rng.pick(&[0, n as u8 + 1, 255]),
+                _ => rng.between(1, n) as u8,
+            };
+            vec![[b'R', t, place, segment]]
+        }
+        Aim::PlaceZero => vec![[b't', t, 2, 0]],
+        Aim::PlaceBeyond => vec![[b't', t, 2, rng.pick(&[length + 1, 200, 255])]],
+        Aim::TailOutside => vec![[b't', t, 3, 2]],
+        Aim::CoversNone => vec![[b't', t, 3, 0]],
+        Aim::CoversThree => vec![[b't', t, 2, rng.between(3, length as usize) as u8], [b't', t, 3, 3]],
+        // The route ends before next, which still stands behind it, and the message would be right for it.
+        Aim::NoNext if train.next_segment().is_some() => {
+            let mut all = message_change(rng, line, i);
+            all.push([b't', t, 1, train.front as u8 + 1]);
+            all
+        }
+        Aim::NoNext => vec![[b'm', t, rng.between(1, 4) as u8, line.box_ahead(i)]],
+        Aim::WrongBox => {
+            let any = rng.between(1, m) as u8;
+            let number = rng.pick(&[0, m as u8 + 1, 255, any, line.box_behind(i), line.box_ahead(i)]);
+            vec![[b'm', t, rng.between(1, 4) as u8, number]]
+        }
+        _ => {
+            let (ahead, code) = (line.box_ahead(i), rng.pick(&[1, 15, 21, 22, 23, 24, 25, 26, 27, 255]));
+            vec![[b'm', t, rng.between(3, 4) as u8, ahead], [b'm', t, 5, code]]
+        }
+    }
+}
+
+/// Changes of the table part meant for a code.
+fn table_changes(rng: &mut Prng, table: &Table, code: u8) -> Option<Vec<Change>> {
+    let (n, m, k) = (table.segments.len(), table.boxes.len(), table.trains.len());
+    let (s, b) = (rng.below(n) as u8, rng.below(m) as u8);
+    let (any_segment, any_box) = (rng.between(1, n) as u8, rng.between(1, m) as u8);
+    let plan = table.boxes[b as usize];
+    if code >= 10 && k == 0 {
+        return None;
+    }
+    let i = rng.below(k) as u8;
+    Some(match code {
+        3 => vec![rng.pick(&[[b'h', 0, 0, 1], [b'h', 0, 0, 255], [b'h', 0, 1, 0], [b'h', 0, 1, 2], [b'h', 0, 1, 255]])],
+        4 => {
+            let (field, values): (u8, &[u8]) = rng.pick(&[(2, &[0, 97, 255]), (3, &[0, 1, 97, 255]), (4, &[17, 255])]);
+            vec![[b'h', 0, field, rng.pick(values)]]
+        }
+        6 => {
+            let field = rng.below(2) as u8;
+            let ends = &table.segments[s as usize];
+            let other = if field == 0 { ends.b } else { ends.a };
+            vec![[b's', s, field, rng.pick(&[0, m as u8 + 1, 255, other])]]
+        }
+        7 => match rng.below(4) {
+            0 => vec![[b'p', b, 0, rng.between(3, 255) as u8]],
+            1 => vec![[b'p', b, 4, if plan.kind == POINT { rng.pick(&[0, 3]) } else { rng.pick(&[1, 2]) }]],
+            2 => vec![[b'p', b, rng.between(1, 3) as u8, rng.pick(&[0, n as u8 + 1, 255])]],
+            _ => vec![[b'p', b, 3, plan.left.max(1)]],
+        },
+        8 => match rng.below(3) {
+            0 => vec![[b'p', b, 1, any_segment]],
+            1 => vec![[b's', s, rng.below(2) as u8, any_box]],
+            _ => vec![[b'p', b, 1, plan.left], [b'p', b, 2, plan.stem]],
+        },
+        9 => return joined_borders(table),
+        10 => match rng.below(2) {
+            0 => vec![[b'd', i, 0, rng.pick(&[2, 255])]],
+            _ => vec![[b'd', i, 1, rng.pick(&[0, 65, 255])]],
+        },
+        11 => {
+            let place = rng.below(table.trains[i as usize].route.len()) as u8;
+            vec![[b'r', i, place, rng.pick(&[0, n as u8 + 1, 255, any_segment, any_segment])]]
+        }
+        _ => {
+            let other = rng.below(k);
+            if other == i as usize {
+                return None;
+            }
+            vec![[b'd', i, 1, 1], [b'r', i, 0, table.trains[other].route[0]]]
+        }
+    })
+}
+
+/// 9: the last box, if it is a border where tracks begin, is taken away, and its segment begins at a
+/// border where tracks end, which becomes a link.
+fn joined_borders(table: &Table) -> Option<Vec<Change>> {
+    let m = table.boxes.len();
+    let gone = &table.boxes[m - 1];
+    let first = gone.stem;
+    if gone.kind != BORDER || table.segments[first as usize - 1].a as usize != m {
+        return None;
+    }
+    let ends = |b: &SwitchBox, number: usize| {
+        b.kind == BORDER && table.segments[b.stem as usize - 1].b as usize == number
+    };
+    let kept = (0..m - 1).find(|&i| ends(&table.boxes[i], i + 1))? as u8;
+    Some(vec![[b'h', 0, 3, m as u8 - 1], [b'p', kept, 0, LINK], [b'p', kept, 2, first], [b's', first - 1, 0, kept + 1]])
+}
+
+/// Some changes after which the record most often still passes, about a train and the boxes around it
+/// or about what a record does not use.
+fn harmless(rng: &mut Prng, line: &Line) -> Vec<Change> {
+    let k = line.trains.len();
+    let mut all = Vec::new();
+    if k == 0 {
+        return all;
+    }
+    let i = rng.below(k);
+    for _ in 0..rng.between(1, 4) {
+        match rng.below(10) {
+            0..=3 => all.push(box_change(rng, line, i)),
+            4 | 5 => all.extend(message_change(rng, line, i)),
+            6 | 7 => all.push([b't', i as u8, rng.between(4, 6) as u8, rng.below(2) as u8]),
+            8 => all.extend(place_changes(rng, line, i)),
+            _ => all.extend(unused_change(rng, line)),
+        }
+    }
+    match rng.below(10) {
+        0 => all.extend(other_route(rng, line, i)),
+        1 => all.extend(one_train_less(line)),
+        _ => {}
+    }
+    all
+}
+
+/// A sensor, a position, a lock or a holder, most often of a box that the train has to do with.
+fn box_change(rng: &mut Prng, line: &Line, i: usize) -> Change {
+    let number = match ends_of_next(line, i) {
+        Some((_, near, far, _)) if rng.chance(80) => rng.pick(&[near, near, far]),
+        _ => rng.between(1, line.boxes.len()) as u8,
+    };
+    let any = rng.between(1, line.trains.len()) as u8;
+    let holder = rng.pick(&[0, i as u8 + 1, i as u8 + 1, any]);
+    let point = line.table.boxes[number as usize - 1].kind == POINT;
+    let (field, value) = match rng.below(6) {
+        0 => (0, rng.below(2) as u8),
+        1 if point => (1, rng.between(1, 2) as u8),
+        1 | 2 => (2, holder),
+        place => (place as u8, holder),
+    };
+    [b'b', number - 1, field, value]
+}
+
+/// A message that 16 and 17 let through, with a code that its box gives.
+fn message_change(rng: &mut Prng, line: &Line, i: usize) -> Vec<Change> {
+    let t = i as u8;
+    let Some((_, near, far, ahead)) = ends_of_next(line, i) else {
+        return vec![[b'm', t, 0, 0]];
+    };
+    let point = line.table.boxes[ahead as usize - 1].kind == POINT;
+    let (number, lock) = match rng.below(4) {
+        0 | 1 if point => (ahead, 1),
+        0 | 2 => (near, 0),
+        _ => (far, 0),
+    };
+    let no = if lock == 1 { rng.between(23, 25) as u8 } else { 22 };
+    match rng.below(4) {
+        0 | 1 => vec![[b'm', t, 1 + lock, number]],
+        2 => vec![[b'm', t, 3 + lock, number]],
+        _ => vec![[b'm', t, 3 + lock, number], [b'm', t, 5, no]],
+    }
+}
+
+/// Another place on the route, single or crossing, with no message.
+fn place_changes(rng: &mut Prng, line: &Line, i: usize) -> Vec<Change> {
+    let t = i as u8;
+    let place = rng.between(1, line.trains[i].route.len()) as u8;
+    let covered = rng.between(1, 2).min(place as usize) as u8;
+    vec![[b't', t, 2, place], [b't', t, 3, covered], [b'm', t, 0, 0]]
+}
+
+/// A change of a record that the line does not use, beyond n, m, k or a route.
+fn unused_change(rng: &mut Prng, line: &Line) -> Option<Change> {
+    let (n, m, k) = (line.table.segments.len(), line.boxes.len(), line.trains.len());
+    let value = rng.byte();
+    let i = rng.below(k);
+    let route = line.trains[i].route.len();
+    let planned = line.table.trains[i].route.len();
+    match rng.below(6) {
+        0 if n < MAX_SEGMENTS => Some([b's', n as u8, 0, value]),
+        1 if m < MAX_BOXES => Some([b'p', m as u8, 0, value]),
+        2 if m < MAX_BOXES => Some([b'b', m as u8, 2, value]),
+        3 if k < MAX_TRAINS => Some([b't', k as u8, 3, value]),
+        4 if route < MAX_ROUTE => Some([b'R', i as u8, route as u8, value]),
+        5 if planned < MAX_ROUTE => Some([b'r', i as u8, planned as u8, value]),
+        _ => None,
+    }
+}
+
+/// The route and direction of another train, from its beginning, with no message.
+fn other_route(rng: &mut Prng, line: &Line, i: usize) -> Vec<Change> {
+    let t = i as u8;
+    let other = &line.trains[rng.below(line.trains.len())];
+    let length = other.route.len().min(8);
+    let mut all = vec![[b't', t, 0, other.direction], [b't', t, 1, length as u8]];
+    all.extend((0..length).map(|p| [b'R', t, p as u8, other.route[p]]));
+    all.extend([[b't', t, 2, 1], [b't', t, 3, 1], [b'm', t, 0, 0]]);
+    all
+}
+
+/// The last train is no longer there, and holds nothing.
+fn one_train_less(line: &Line) -> Vec<Change> {
+    let last = line.trains.len() as u8;
+    let mut all = vec![[b'h', 0, 4, last - 1]];
+    for (b, state) in line.boxes.iter().enumerate() {
+        let [stem, left, right] = state.reserved;
+        for (field, holder) in [(2, state.lock), (3, stem), (4, left), (5, right)] {
+            if holder == last {
+                all.push([b'b', b as u8, field, 0]);
+            }
+        }
+    }
+    all
+}
+
+/// A step for a made-up line, of a train that its changes are about where there is one.
+pub fn step_on(rng: &mut Prng, line: &Line, changes: &[Change]) -> Step {
+    let k = line.trains.len();
+    let about = changes.iter().find(|c| matches!(c[0], b't' | b'm') && (c[1] as usize) < k);
+    let i = match about {
+        Some(change) if rng.chance(80) => change[1] as usize,
+        _ => rng.below(k.max(1)),
+    };
+    let me = i as u8 + 1;
+    if k == 0 || rng.chance(6) {
+        return [rng.below(9) as u8, rng.below(k + 2) as u8, rng.below(3) as u8];
+    }
+    let m = line.boxes.len();
+    let (near, far) = match ends_of_next(line, i) {
+        Some((_, near, far, _)) => (near, far),
+        None => (line.box_ahead(i), rng.between(1, m) as u8),
+    };
+    let requests = [[1, me, near], [1, me, far], [2, me, near], [rng.between(1, 2) as u8, me, rng.between(1, m) as u8]];
+    match line.trains[i].message {
+        Message::Sent(_) if rng.chance(75) => [3, me, 0],
+        Message::Answered(..) if rng.chance(75) => [4, me, 0],
+        _ => match rng.below(8) {
+            0..=3 => rng.pick(&requests),
+            4 | 5 => [5, me, 0],
+            6 => [6, me, 0],
+            _ => [rng.between(3, 4) as u8, me, 0],
+        },
+    }
+}

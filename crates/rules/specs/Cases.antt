@@ -1,5 +1,6 @@
 -- The cases of 01 ("Checked on S and beside it", and the printout of table S), and the form of a case. With the cases of
--- FileCases, StepCases and RecordCases they are one list, and proofs/Cases.antt proves that the definitions give what each expects.
+-- FileCases, StepCases, RunCases and RecordCases they are one list, and proofs/Cases.antt proves that the definitions give what
+-- each expects.
 use Prim.Native.Nat.{ℕ, _+_, _-_, _*_}
 use mathlib.Core.List.{List, [], _∷_, _++_}
 use lib.ListN.{length, take, set}
@@ -16,8 +17,8 @@ use Rattle.rules.specs.Record.{checkedStep}
 use Rattle.rules.specs.History.{lineAfter, events}
 use Rattle.rules.specs.Atomic.{atomicStep, stopped}
 use Rattle.rules.specs.Safety.{reached, history, whereIs, ordered, atomic}
-use Rattle.rules.specs.Run.{stepCount, answersOf}
-use Rattle.rules.specs.Printout.{bytesOf, decimal, mostSteps, takenOf, printout, printoutUpTo, tailOf, bit}
+use Rattle.rules.specs.Run.{stepCount, answersOf, run, answered}
+use Rattle.rules.specs.Printout.{bytesOf, decimal, mostSteps, takenOf, printout, printoutUpTo, tailOf, bit, textRoom, printCode, printLength, printedText, printedAnswers}
 
 -- What is asked of the definitions about a file, or about a file and a list of steps.
 pub data Question : Type 0 where
@@ -39,6 +40,15 @@ pub data Question : Type 0 where
   -- What is printed, for the file and the input; the same where at most so many steps are taken.
   printed : List ℕ → List ℕ → Question
   printedUpTo : ℕ → List ℕ → List ℕ → Question
+  -- A run's code and the whole buffer after it, for the file, the steps and a buffer for the answers; the code with all trains and
+  -- boxes after it.
+  runTo : List ℕ → List ℕ → List ℕ → Question
+  runLine : List ℕ → List ℕ → List ℕ → Question
+  -- The room asked for the text of an input. What is printed into lent memory, for the file, the input and buffers for the answers
+  -- and the text: the code, the length and the whole text buffer; the code with the whole answers' buffer.
+  roomFor : List ℕ → Question
+  printedTo : List ℕ → List ℕ → List ℕ → List ℕ → Question
+  answersBeside : List ℕ → List ℕ → List ℕ → List ℕ → Question
   -- The writer's code and the whole buffer after it, for a table record.
   writtenTo : Table → List ℕ → Question
   -- The code of a single step on any record; the same with a train, a box, and all trains and boxes after it.
@@ -100,6 +110,14 @@ found (decimalOf x) = decimal x
 found (stepsTaken input) = stepCount (takenOf mostSteps input) ∷ []
 found (printed bytes input) = printout bytes input
 found (printedUpTo most bytes input) = printoutUpTo most bytes input
+found (runTo bytes input buffer) = run checkedStep bytes input buffer .code ∷ answered checkedStep bytes input buffer
+found (runLine bytes input buffer) =
+    let o = run checkedStep bytes input buffer in
+    o .code ∷ lineNumbers (o .line)
+found (roomFor input) = textRoom input ∷ []
+found (printedTo bytes input answers text) =
+    printCode input answers text ∷ printLength bytes input answers text ∷ printedText bytes input answers text
+found (answersBeside bytes input answers text) = printCode input answers text ∷ printedAnswers bytes input answers text
 found (writtenTo t buffer) = writeCode t buffer ∷ written t buffer
 found (checked l s) = checkedStep l s .code ∷ []
 found (checkedTrain l s i) =

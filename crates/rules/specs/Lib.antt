@@ -31,6 +31,7 @@ pub mod Printout
 pub mod Cases
 pub mod FileCases
 pub mod StepCases
+pub mod RunCases
 pub mod RecordCases
 -- Examples of what demand 3 says.
 pub mod Examples

@@ -16,6 +16,7 @@ use Rattle.rules.specs.Safety.{reached}
 use Rattle.rules.specs.Cases.{Question, checked, checkedTrain, checkedBox, Case, _gives_, stepOf, tableS, oneStart, paperCases}
 use Rattle.rules.specs.FileCases.{linked, fileCases}
 use Rattle.rules.specs.StepCases.{crossing, stepCases}
+use Rattle.rules.specs.RunCases.{runCases, lentCases}
 
 -- Records made up by hand: table S at its start with another train 1, another box, or other routes.
 abbrev pub startS : Line
@@ -229,4 +230,4 @@ madeUpCases =
 
 -- All cases.
 unfoldable pub cases : List Case
-cases = paperCases ++ fileCases ++ stepCases ++ recordCases ++ madeUpCases
+cases = paperCases ++ fileCases ++ stepCases ++ runCases ++ lentCases ++ recordCases ++ madeUpCases

@@ -38,7 +38,7 @@ pub train-answer : (l : Line) (i : ℕ) (a b kinds : List ℕ) (r v : Bool)
     → length (l .table .boxes) ≡ 96
     → a ≡ column (farBox (l .table) 1)
     → b ≡ column (farBox (l .table) 0)
-    → kinds ≡ column (kindOf (l .table))
+    → kinds ≡ column (kindOf (l .table .boxes))
     → i < 16
     → r ≡ trainFaultIn (l .table .n) a b kinds (l .routes) (i + 1) (getD (l .trains) i noTrain)
     → r ≡ v

@@ -17,7 +17,8 @@ pub fn record_faulty(line: Line) -> bool
     }
     let a = layout::network::far_boxes(table, 1);
     let b = layout::network::far_boxes(table, 0);
-    let kinds = deciding::sight::kinds(table);
+    let plans = table.boxes;
+    let kinds = deciding::sight::kinds(plans);
     if trains::some_train_faulty(line, &a, &b, &kinds) {
         return true;
     }

@@ -126,7 +126,7 @@ pub(crate) fn some_train_faulty(line: Line, a: &[u8; 256], b: &[u8; 256], kinds:
     requires { ⌜ line .table .k ≤ 16 ⌝ }
     requires { ⌜ now a ≡ column (farBox (line .table) 1) ⌝ }
     requires { ⌜ now b ≡ column (farBox (line .table) 0) ⌝ }
-    requires { ⌜ now kinds ≡ column (kindOf (line .table)) ⌝ }
+    requires { ⌜ now kinds ≡ column (kindOf (line .table .boxes)) ⌝ }
     ensures { λ r. ⌜ r ≡ anyOf (line .table .k) (trainFault line) ⌝ }
 {
     let n = line.table.n;

@@ -1,30 +1,23 @@
 -- What stands around a train, looked up in the columns of a table.
-use Prim.Native.Nat.{ℕ, zero, suc, _≤_}
-use mathlib.Core.Path.{_≡_, ap}
+use Prim.Native.Nat.{ℕ}
+use mathlib.Core.Path.{_≡_}
 use mathlib.Core.List.{List}
 use native.Mathlib.Omega.{arith}
-use lib.ListN.{length, getD, List·getD-eq-default}
-use Rattle.rules.specs.declared.BoxPlan.{BoxPlan}
+use lib.ListN.{length, getD}
 use Rattle.rules.specs.declared.Table.{Table}
 use Rattle.rules.specs.declared.Train.{Train}
-use Rattle.rules.specs.Rows.{nth}
-use Rattle.rules.specs.Track.{noBoxPlan, planAt, farBox, nearBox, isPoint}
+use Rattle.rules.specs.Track.{planAt, farBox, nearBox, isPoint}
 use Rattle.rules.specs.Line.{aroundTrain}
 use Rattle.layout.specs.Ends.{column}
 use Rattle.layout.proofs.Column.{column-all}
 use Rattle.layout.proofs.Laws.{a-column, b-column}
 use Rattle.deciding.specs.Sight.{kindOf, farIn, nearIn, aroundIn}
+use Rattle.deciding.proofs.Sights.{kind-beyond}
 
 -- The kind of any box number stands in its column.
-kind-beyond : (t : Table) → length (t .boxes) ≡ 96 → (b : ℕ) → 256 ≤ b → kindOf t b ≡ 0
-unfolding kindOf planAt nth
-kind-beyond t e zero h = absurd (omega arith)
-kind-beyond t e (suc b) h =
-    ap (λ (p : BoxPlan). p .kind) (List·getD-eq-default (t .boxes) noBoxPlan (omega arith))
-
-kind-column : (t : Table) → length (t .boxes) ≡ 96 → (b : ℕ) → getD (column (kindOf t)) b 0 ≡ planAt t b .kind
-unfolding kindOf
-kind-column t e = column-all (kindOf t) (kind-beyond t e)
+kind-column : (t : Table) → length (t .boxes) ≡ 96 → (b : ℕ) → getD (column (kindOf (t .boxes))) b 0 ≡ planAt t b .kind
+unfolding kindOf planAt
+kind-column t e = column-all (kindOf (t .boxes)) (λ b h. kind-beyond (t .boxes) e b (omega arith))
 
 module _ (t : Table) (e : length (t .segments) ≡ 96) where
   -- The far and near end of any segment number: in direction 0 these are B and A, in any other A and B.
@@ -38,6 +31,6 @@ module _ (t : Table) (e : length (t .segments) ≡ 96) where
 
 pub around-in
     : (t : Table) (routes : List ℕ) (i : ℕ) (r : Train) → length (t .segments) ≡ 96 → length (t .boxes) ≡ 96
-    → aroundIn (column (farBox t 1)) (column (farBox t 0)) (column (kindOf t)) routes i r ≡ aroundTrain t routes i r
+    → aroundIn (column (farBox t 1)) (column (farBox t 0)) (column (kindOf (t .boxes))) routes i r ≡ aroundTrain t routes i r
 unfolding aroundIn aroundTrain isPoint
 around-in t routes i r e f = simp (far-in t e, near-in t e, kind-column t f)

@@ -62,7 +62,7 @@ enter-room v r code e none = let free = enter-iff v r .0 (sym e ∙ none) in (fr
 
 module _ (v : Around) (r : Train) (p : BoxPlan) (x : SwitchBox) (d : Decided) where
   -- Clear: refused where the train is single.
-  pub clear-single : r .covered ≤ 1 → d ≡ refusing 20 r x → d ≡ clearing v r p x
+  pub clear-single : r .covered ≤ 1 → d ≡ refusing 20 → d ≡ clearing v r p x
   unfolding clearing clearRows first
   clear-single single e = rw (le-leb (r .covered) 1 single) e
 
@@ -72,11 +72,11 @@ module _ (v : Around) (r : Train) (p : BoxPlan) (x : SwitchBox) (d : Decided) wh
 
 module _ (kind at : ℕ) (known : Bool) (v : Around) (r : Train) (p : BoxPlan) (x : SwitchBox) (d : Decided) where
   -- Kinds 3 to 6: 13 for a box byte, 14 for an unknown train.
-  pub plain-box : at ≢ 0 → d ≡ refusing 13 r x → d ≡ plainly kind at known v r p x
+  pub plain-box : at ≢ 0 → d ≡ refusing 13 → d ≡ plainly kind at known v r p x
   unfolding plainly
   plain-box box e = rw (ne-eqb at 0 box) e
 
-  pub plain-unknown : at ≡ 0 → not known ≡ true → d ≡ refusing 14 r x → d ≡ plainly kind at known v r p x
+  pub plain-unknown : at ≡ 0 → not known ≡ true → d ≡ refusing 14 → d ≡ plainly kind at known v r p x
   unfolding plainly
   plain-unknown none unknown e = rw (eq-eqb at 0 none, not-true known unknown) e
 
@@ -107,7 +107,7 @@ module _ (kind at : ℕ) (known : Bool) (v : Around) (r : Train) (p : BoxPlan) (
         let within : (leb 3 kind && leb kind 6) ≡ true = and-true _ _ (le-leb 3 kind (omega arith)) (le-leb kind 6 (omega arith)) in
         rw (ne-eqb kind 1 one, ne-eqb kind 2 two, within) e
 
-    pub decided-other : (kind < 1) ⊎ (7 ≤ kind) → d ≡ refusing 13 r x → d ≡ decided kind at known v r p x
+    pub decided-other : (kind < 1) ⊎ (7 ≤ kind) → d ≡ refusing 13 → d ≡ decided kind at known v r p x
     unfolding decided
     decided-other outside e =
         let beyond : (leb 3 kind && leb kind 6) ≡ false =

@@ -8,30 +8,29 @@ use borrow.Author.Tests.{le-ltb}
 use lib.Dec.{eqb, ltb}
 use lib.ListN.{length, getD, List·getD-eq-default}
 use Rattle.rules.specs.declared.BoxPlan.{BoxPlan}
-use Rattle.rules.specs.declared.Table.{Table}
 use Rattle.rules.specs.declared.Train.{Train}
 use Rattle.rules.specs.declared.Around.{Around}
 use Rattle.rules.specs.Rows.{nth}
-use Rattle.rules.specs.Track.{noBoxPlan, planAt, routeAt}
+use Rattle.rules.specs.Track.{noBoxPlan, routeAt}
 use Rattle.rules.proofs.Tests.{cond-same}
 use Rattle.rules.proofs.Rows.{route-at}
 use Rattle.deciding.specs.Sight.{kindOf, farIn, nearIn, aroundIn}
 
 -- There is no box 0 and none past the array; box i + 1 stands at index i.
-module _ (t : Table) where
-  pub kind-none : kindOf t 0 ≡ 0
-  unfolding kindOf planAt nth
+module _ (plans : List BoxPlan) where
+  pub kind-none : kindOf plans 0 ≡ 0
+  unfolding kindOf nth
   kind-none = refl
 
-  pub kind-beyond : length (t .boxes) ≡ 96 → (x : ℕ) → 96 < x → kindOf t x ≡ 0
-  unfolding kindOf planAt nth
+  pub kind-beyond : length plans ≡ 96 → (x : ℕ) → 96 < x → kindOf plans x ≡ 0
+  unfolding kindOf nth
   kind-beyond e zero h = absurd (omega arith)
   kind-beyond e (suc x) h =
-      let none : getD (t .boxes) x noBoxPlan ≡ noBoxPlan = List·getD-eq-default (t .boxes) noBoxPlan (omega arith) in
+      let none : getD plans x noBoxPlan ≡ noBoxPlan = List·getD-eq-default plans noBoxPlan (omega arith) in
       ap (λ (p : BoxPlan). p .kind) none
 
-  pub kind-at : (i : ℕ) → getD (t .boxes) i noBoxPlan .kind ≡ kindOf t (i + 1)
-  unfolding kindOf planAt nth
+  pub kind-at : (i : ℕ) → getD plans i noBoxPlan .kind ≡ kindOf plans (i + 1)
+  unfolding kindOf nth
   kind-at i = rw add-one
 
 -- A line has the routes of trains 1 to 16, of places 1 to 64 each.

@@ -1,13 +1,13 @@
 -- What is decided of a train and a box, put back into the line, is the step of `rules`.
-use Prim.Native.Nat.{ℕ, zero, suc, _-_, _≤_, _<_}
-use mathlib.Core.Path.{_≡_, refl, sym, _∙_, ap}
+use Prim.Native.Nat.{ℕ, zero, suc, _-_, _≤_}
+use mathlib.Core.Path.{_≡_, refl, sym, _∙_}
 use mathlib.Core.Bool.{Bool, true, false, cond, not, _&&_, false≢true}
 use mathlib.Core.List.{List}
 use native.Mathlib.Decide.{ℕ-discrete, decLt}
 use native.Mathlib.Omega.{arith}
 use lib.Dec.{eqb, leb}
 use lib.ListN.{length, getD, set, List·getD-eq-default}
-use lib.Seq.{set-out, set-getD}
+use lib.Seq.{set-out}
 use Rattle.rules.specs.declared.BoxPlan.{BoxPlan}
 use Rattle.rules.specs.declared.SwitchBox.{SwitchBox}
 use Rattle.rules.specs.declared.Request.{Request}
@@ -22,19 +22,21 @@ use Rattle.rules.specs.Rows.{outside, nth, setNth}
 use Rattle.rules.specs.Track.{noBoxPlan, planAt}
 use Rattle.rules.specs.Line.{noBox, noTrain, aroundTrain, around, boxAt, trainAt, putTrain, putBox, messageBox}
 use Rattle.rules.specs.Steps.{Step, Effect, refused, train, trainAndBox, apply, unless, forTrain, send, reply, boxAnswers, trainHears, enter, clear, plainEffect, effect, step}
-use Rattle.rules.proofs.Tests.{facts, not-passed, outside-false-iff}
-use Rattle.rules.proofs.Frames.{put, set-length, box-back, train-back, train-alone}
+use Rattle.rules.proofs.Tests.{facts, outside-false-iff}
+use Rattle.rules.proofs.Frames.{put, train-alone}
 use Rattle.deciding.specs.declared.Decided.{Decided}
+use Rattle.deciding.specs.declared.Decided.the-variants.{Refused, Changed}
 use Rattle.deciding.specs.Decided.{concernedBox, decidedAs, refusing, unlessStopped, sending, answering, boxAnswering, hearing, entering, clearing, asking, plainly, decided}
 
 -- What holds where a test is passed and where it is not holds.
-tested : {P : Type 0} (c : Bool) → (c ≡ true → P) → (c ≡ false → P) → P
+tested {ℓ} : {P : Type ℓ} (c : Bool) → (c ≡ true → P) → (c ≡ false → P) → P
 tested true h k = h refl
 tested false h k = k refl
 
 -- What is decided of train i and box b, put back.
 abbrev pub putBack : Line → ℕ → ℕ → Decided → Outcome
-putBack l i b d = record { code = d .code; line = put l i (d .train) b (d .switchbox) }
+putBack l i b (Refused c) = record { code = c; line = l }
+putBack l i b (Changed c r x) = record { code = c; line = put l i r b x }
 
 -- An effect of train i, and the same decided of it and of box b.
 record Same (l : Line) (i b : ℕ) (e : Effect) (d : Decided) : Type 0 where
@@ -47,10 +49,10 @@ module _ {l : Line} {i b : ℕ} where
   either true h k = h refl
   either false h k = k refl
 
-  -- A refusal leaves the train and the box as they were; a train alone leaves the box as it was.
-  refusal : (c : ℕ) → Same l i b (refused c) (refusing c (trainAt l i) (boxAt l b))
+  -- A refusal leaves the line as it was; a train alone leaves the box as it was.
+  refusal : (c : ℕ) → Same l i b (refused c) (refusing c)
   unfolding apply
-  refusal c = record { same = rw (train-alone, train-back) }
+  refusal c = record { same = refl }
 
   alone : (c : ℕ) (r : Train) → Same l i b (train c r) (decidedAs c r (boxAt l b))
   unfolding apply
@@ -60,8 +62,7 @@ module _ {l : Line} {i b : ℕ} where
   unfolding apply
   both c r x = record { same = refl }
 
-  unstopped : (c : ℕ) {e : Effect} {d : Decided} → Same l i b e d
-      → Same l i b (unless c e) (unlessStopped c (trainAt l i) (boxAt l b) d)
+  unstopped : (c : ℕ) {e : Effect} {d : Decided} → Same l i b e d → Same l i b (unless c e) (unlessStopped c d)
   unfolding unless
   unstopped c h = either (eqb c 0) (λ _. h) (λ _. refusal c)
 
@@ -147,24 +148,33 @@ module _ (l : Line) (s : Step) where
   unfolding step
   step-known h = effect-same h .same
 
+-- A code, and the line with these boxes and trains.
+abbrev pub leaving : Line → ℕ → List SwitchBox → List Train → Outcome
+leaving l c boxes trains =
+    record { code = c; line = record { table = l .table; boxes = boxes; trains = trains; routes = l .routes } }
+
+-- What is decided, with the train put back at index i and the box at index j.
+abbrev pub putAt : Line → ℕ → ℕ → Decided → Outcome
+putAt l i j (Refused c) = record { code = c; line = l }
+putAt l i j (Changed c r x) = leaving l c (set (l .boxes) j x) (set (l .trains) i r)
+
 -- No train of the line: the effect is a refusal, and what is decided refuses with the same code.
-record BothRefuse (r : Train) (x : SwitchBox) (e : Effect) (d : Decided) : Type 0 where
+record BothRefuse (e : Effect) (d : Decided) : Type 0 where
   code : ℕ
   effect : e ≡ refused code
-  decision : d ≡ refusing code r x
+  decision : d ≡ refusing code
 
-module _ {r : Train} {x : SwitchBox} where
-  both-refuse : (c : ℕ) → BothRefuse r x (refused c) (refusing c r x)
-  both-refuse c = record { code = c; effect = refl; decision = refl }
+both-refuse : (c : ℕ) → BothRefuse (refused c) (refusing c)
+both-refuse c = record { code = c; effect = refl; decision = refl }
 
-  either-refuse : (c : Bool) {e f : Effect} {d g : Decided} → BothRefuse r x e d → BothRefuse r x f g
-      → BothRefuse r x (cond c e f) (cond c d g)
-  either-refuse true h k = h
-  either-refuse false h k = k
+either-refuse : (c : Bool) {e f : Effect} {d g : Decided} → BothRefuse e d → BothRefuse f g
+    → BothRefuse (cond c e f) (cond c d g)
+either-refuse true h k = h
+either-refuse false h k = k
 
 module _ (l : Line) (s : Step) (h : outside (l .table .k) (s .train) ≡ true) where
   effect-refuses : (v : Around) (r : Train) (p : BoxPlan) (x : SwitchBox)
-      → BothRefuse r x (effect l s) (decided (s .kind) (s .box) false v r p x)
+      → BothRefuse (effect l s) (decided (s .kind) (s .box) false v r p x)
   unfolding effect forTrain decided asking plainly
   effect-refuses v r p x =
       rw h
@@ -174,18 +184,10 @@ module _ (l : Line) (s : Step) (h : outside (l .table .k) (s .train) ≡ true) w
       (either-refuse (eqb (s .box) 0) (both-refuse 14) (both-refuse 13))
       (both-refuse 13))))
 
-  pub unknown-decided : (v : Around) (r : Train) (p : BoxPlan) (x : SwitchBox)
-      → decided (s .kind) (s .box) false v r p x ≡ refusing (step l s .code) r x
+  step-unknown : (v : Around) (r : Train) (p : BoxPlan) (x : SwitchBox) (i j : ℕ)
+      → step l s ≡ putAt l i j (decided (s .kind) (s .box) false v r p x)
   unfolding step apply
-  unknown-decided v r p x =
-      let k = effect-refuses v r p x in
-      rw (k .effect) (k .decision)
-
-  pub unknown-line : step l s .line ≡ l
-  unfolding step apply
-  unknown-line =
-      let i = s .train in
-      rw (effect-refuses (around l i) (trainAt l i) (planAt (l .table) 0) (boxAt l 0) .effect)
+  step-unknown v r p x i j = let k = effect-refuses v r p x in rw (k .effect, k .decision)
 
 -- A number that is not 0 and outside 1 .. n is above n.
 past : (n i : ℕ) → outside n (suc i) ≡ true → n ≤ i
@@ -195,8 +197,8 @@ past n i h =
       | no l ↦ omega arith
     ]
 
--- A list's i-th where i is a number of the list: it stands at index i - 1, and is put back there.
 module _ {ℓ} {A : Type ℓ} where
+  -- A list's i-th where i is a number of the list: it stands at index i - 1, and is put back there.
   nth-before : (l : List A) (i : ℕ) (d : A) → 1 ≤ i → nth l i d ≡ getD l (i - 1) d
   unfolding nth
   nth-before l zero d h = absurd (omega arith)
@@ -218,114 +220,70 @@ module _ {ℓ} {A : Type ℓ} where
   set-outside l zero a h = refl
   set-outside l (suc i) a h = set-out l i a (past (length l) i h)
 
-train-before : (l : Line) (i : ℕ) → 1 ≤ i → trainAt l i ≡ getD (l .trains) (i - 1) noTrain
-unfolding trainAt
-train-before l i h = nth-before (l .trains) i noTrain h
+  -- So both are done at an index that is past the end where i is no number of the list.
+  module _ (l : List A) (n : ℕ) (size : length l ≡ n) (i j : ℕ) (j-is : j ≡ cond (outside n i) n (i - 1)) where
+    nth-index : (d : A) → nth l i d ≡ getD l j d
+    nth-index d =
+        tested (outside n i)
+        (λ none.
+        let beyond : j ≡ n = rw none at j-is in
+        nth-outside l i d (rw size none) ∙ sym (List·getD-eq-default l d (omega arith)))
+        (λ some.
+        let here : j ≡ i - 1 = rw some at j-is in
+        rw here (nth-before l i d (outside-false-iff n i .0 some .0)))
 
-boxes-back : (l : Line) (b : ℕ) → setNth (l .boxes) b (boxAt l b) ≡ l .boxes
-unfolding putBox
-boxes-back l b = ap (λ (after : Line). after .boxes) (box-back l b)
+    set-index : (a : A) → setNth l i a ≡ set l j a
+    set-index a =
+        tested (outside n i)
+        (λ none.
+        let beyond : j ≡ n = rw none at j-is in
+        set-outside l i a (rw size none) ∙ sym (set-out l j a (omega arith)))
+        (λ some.
+        let here : j ≡ i - 1 = rw some at j-is in
+        rw here (set-before l i a (outside-false-iff n i .0 some .0)))
 
--- The index of box b is below 96 where there is such a box, and not where there is none.
-index-inside : (b j : ℕ) → j ≡ cond (outside 96 b) 96 (b - 1) → j < 96 → outside 96 b ≡ false
-index-inside b j e h =
-    not-passed (outside 96 b) λ none.
-    let past-all : j ≡ 96 = rw none at e in
-    omega arith
-
-index-outside : (b j : ℕ) → j ≡ cond (outside 96 b) 96 (b - 1) → 96 ≤ j → outside 96 b ≡ true
-index-outside b j e h =
-    tested (outside 96 b) (λ none. none) λ some.
-    let number = outside-false-iff 96 b .0 some in
-    let here : j ≡ b - 1 = rw some at e in
-    absurd (omega arith)
-
--- A code, and the line with these boxes and trains.
-abbrev pub leaving : Line → ℕ → List SwitchBox → List Train → Outcome
-leaving l c boxes trains =
-    record { code = c; line = record { table = l .table; boxes = boxes; trains = trains; routes = l .routes } }
-
--- A step as a program takes it: a train read at an index, what stands around it, the box that the step concerns, and what is
--- decided of the train and the box.
-module _ (l : Line) (s : Step) (room : l .table .k ≤ 16)
+-- A step as a program takes it: a train read at an index, what stands around it, the box that the step concerns, read at an index
+-- that is past the end where there is none, and what is decided of the train and the box.
+module _ (l : Line) (s : Step) (room : l .table .k ≤ 16) (boxes : length (l .boxes) ≡ 96) (plans : length (l .table .boxes) ≡ 96)
     (known : Bool) (known-is : known ≡ not (outside (l .table .k) (s .train)))
     (i : ℕ) (i-is : i ≡ cond (outside 16 (s .train)) 0 (s .train - 1))
     (r : Train) (r-is : r ≡ getD (l .trains) i noTrain)
     (v : Around) (v-is : v ≡ aroundTrain (l .table) (l .routes) (s .train) r)
     (b : ℕ) (b-is : b ≡ concernedBox (s .kind) v r)
-    (p : BoxPlan) (x : SwitchBox) (d : Decided) (d-is : d ≡ decided (s .kind) (s .box) known v r p x) where
-  -- The train is put back at its index, and the box by its number.
-  abbrev Taken : Type 0
-  Taken = step l s ≡ leaving l (d .code) (setNth (l .boxes) b (d .switchbox)) (set (l .trains) i (d .train))
+    (j : ℕ) (j-is : j ≡ cond (outside 96 b) 96 (b - 1))
+    (p : BoxPlan) (p-is : p ≡ getD (l .table .boxes) j noBoxPlan)
+    (x : SwitchBox) (x-is : x ≡ getD (l .boxes) j noBox)
+    (d : Decided) (d-is : d ≡ decided (s .kind) (s .box) known v r p x) where
+  -- The indices are those of the train and of the box.
+  put-index : (d : Decided) → 1 ≤ s .train → i ≡ s .train - 1 → putBack l (s .train) b d ≡ putAt l i j d
+  unfolding putTrain putBox
+  put-index (Refused c) low here = refl
+  put-index (Changed c t y) low here =
+      rw (set-before (l .trains) (s .train) t low, set-index (l .boxes) 96 boxes b j j-is y, here)
 
   -- A train of the line is read at its own index.
-  taken-known : outside (l .table .k) (s .train) ≡ false → p ≡ planAt (l .table) b → x ≡ boxAt l b → Taken
-  unfolding putTrain putBox around
-  taken-known h p-is x-is =
+  decided-known : outside (l .table .k) (s .train) ≡ false → step l s ≡ putAt l i j d
+  unfolding around trainAt planAt boxAt
+  decided-known h =
       let number = outside-false-iff (l .table .k) (s .train) .0 h in
       let low : 1 ≤ s .train = number .0 in
       let within : outside 16 (s .train) ≡ false = outside-false-iff 16 (s .train) .1 (low, omega arith) in
       let i-here : i ≡ s .train - 1 = rw within at i-is in
-      let r-here : r ≡ trainAt l (s .train) = rw (i-here, ← train-before l (s .train) low) at r-is in
+      let r-here : r ≡ trainAt l (s .train) = rw (i-here, ← nth-before (l .trains) (s .train) noTrain low) at r-is in
       let v-here : v ≡ around l (s .train) = rw r-here at v-is in
       let b-here : b ≡ boxOf l s = rw (v-here, r-here) at b-is in
+      let p-here : p ≡ planAt (l .table) b = rw (← nth-index (l .table .boxes) 96 plans b j j-is noBoxPlan) at p-is in
+      let x-here : x ≡ boxAt l b = rw (← nth-index (l .boxes) 96 boxes b j j-is noBox) at x-is in
       let known-here : known ≡ true = rw h at known-is in
-      let d-here : d ≡ decidedHere l s = rw (known-here, p-is, x-is, b-here, v-here, r-here) at d-is in
-      rw (d-here, b-here, i-here, ← set-before (l .trains) (s .train) (decidedHere l s .train) low) (step-known l s h)
+      let d-here : d ≡ decidedHere l s = rw (known-here, p-here, x-here, b-here, v-here, r-here) at d-is in
+      rw (← d-here, ← b-here) at (step-known l s h) ∙ put-index d low i-here
 
-  -- Where the line has no such train, some other train may be read, which is put back as it was.
-  taken-unknown : outside (l .table .k) (s .train) ≡ true → x ≡ boxAt l b → Taken
-  taken-unknown h x-is =
+  -- What is decided, put back at these indices, is the step.
+  pub step-decided : step l s ≡ putAt l i j d
+  step-decided =
+      tested (outside (l .table .k) (s .train))
+      (λ h.
       let known-here : known ≡ false = rw h at known-is in
-      let d-here : d ≡ refusing (step l s .code) r (boxAt l b) = rw (known-here, unknown-decided l s h, x-is) at d-is in
-      rw (d-here, boxes-back, r-is, set-getD)
-      (ap (λ (after : Line). record { code = step l s .code; line = after }) (unknown-line l s h))
-
-  taken : p ≡ planAt (l .table) b → x ≡ boxAt l b → Taken
-  taken p-is x-is =
-      tested (outside (l .table .k) (s .train)) (λ h. taken-unknown h x-is) (λ h. taken-known h p-is x-is)
-
-  -- The box is read at its index, and put back there.
-  pub step-here
-      : (j : ℕ) → j ≡ cond (outside 96 b) 96 (b - 1) → j < 96
-      → p ≡ getD (l .table .boxes) j noBoxPlan → x ≡ getD (l .boxes) j noBox
-      → step l s ≡ leaving l (d .code) (set (l .boxes) j (d .switchbox)) (set (l .trains) i (d .train))
-  unfolding planAt boxAt
-  step-here j j-is h p-is x-is =
-      let inside = index-inside b j j-is h in
-      let low : 1 ≤ b = outside-false-iff 96 b .0 inside .0 in
-      let j-here : j ≡ b - 1 = rw inside at j-is in
-      let p-here : p ≡ planAt (l .table) b = rw (j-here, ← nth-before (l .table .boxes) b noBoxPlan low) at p-is in
-      let x-here : x ≡ boxAt l b = rw (j-here, ← nth-before (l .boxes) b noBox low) at x-is in
-      rw (j-here, ← set-before (l .boxes) b (d .switchbox) low) (taken p-here x-here)
-
-  -- Without such a box nothing is read, and none is put back.
-  pub step-nowhere
-      : length (l .boxes) ≡ 96 → length (l .table .boxes) ≡ 96 → (j : ℕ) → j ≡ cond (outside 96 b) 96 (b - 1) → 96 ≤ j
-      → p ≡ noBoxPlan → x ≡ noBox → step l s ≡ leaving l (d .code) (l .boxes) (set (l .trains) i (d .train))
-  unfolding planAt boxAt
-  step-nowhere boxes plans j j-is h p-is x-is =
-      let none = index-outside b j j-is h in
-      let no-box : outside (length (l .boxes)) b ≡ true = rw boxes none in
-      let no-plan : outside (length (l .table .boxes)) b ≡ true = rw plans none in
-      let p-here : p ≡ planAt (l .table) b = p-is ∙ sym (nth-outside (l .table .boxes) b noBoxPlan no-plan) in
-      let x-here : x ≡ boxAt l b = x-is ∙ sym (nth-outside (l .boxes) b noBox no-box) in
-      rw (set-outside (l .boxes) b (d .switchbox) no-box) at (taken p-here x-here)
-
--- What every step leaves: the table, the routes, and how many boxes and trains there are.
-pub record Kept (l after : Line) : Type 0 where
-  pub table : after .table ≡ l .table
-  pub routes : after .routes ≡ l .routes
-  pub boxes : length (after .boxes) ≡ length (l .boxes)
-  pub trains : length (after .trains) ≡ length (l .trains)
-
-put-keeps : (l : Line) (i : ℕ) (r : Train) (b : ℕ) (x : SwitchBox) → Kept l (put l i r b x)
-unfolding putTrain putBox
-put-keeps l i r b x =
-    record { table = refl; routes = refl; boxes = set-length (l .boxes) b x; trains = set-length (l .trains) i r }
-
-pub step-keeps : (l : Line) (s : Step) → Kept l (step l s .line)
-step-keeps l s =
-    tested (outside (l .table .k) (s .train))
-    (λ h. rw (unknown-line l s h) (record { table = refl; routes = refl; boxes = refl; trains = refl }))
-    (λ h. rw (step-known l s h) (put-keeps l _ _ _ _))
+      let d-here : d ≡ decided (s .kind) (s .box) false v r p x = rw known-here at d-is in
+      rw d-here (step-unknown l s h v r p x i j))
+      decided-known

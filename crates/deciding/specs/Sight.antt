@@ -5,14 +5,15 @@ use mathlib.Core.Bool.{cond}
 use mathlib.Core.List.{List}
 use lib.Dec.{eqb}
 use lib.ListN.{getD}
-use Rattle.rules.specs.declared.Table.{Table}
+use Rattle.rules.specs.declared.BoxPlan.{BoxPlan}
 use Rattle.rules.specs.declared.Train.{Train}
 use Rattle.rules.specs.declared.Around.{Around}
-use Rattle.rules.specs.Track.{planAt, routeAt}
+use Rattle.rules.specs.Rows.{nth}
+use Rattle.rules.specs.Track.{noBoxPlan, routeAt}
 
--- The kind of box b.
-unfoldable pub kindOf : Table → ℕ → ℕ
-kindOf t b = planAt t b .kind
+-- The kind of box b of these plans.
+unfoldable pub kindOf : List BoxPlan → ℕ → ℕ
+kindOf plans b = nth plans b noBoxPlan .kind
 
 -- The boxes at the far end and at the near end of segment s in direction d.
 unfoldable pub farIn : List ℕ → List ℕ → ℕ → ℕ → ℕ

@@ -1,5 +1,5 @@
 // What a step does to its train and to the one box that it concerns, by 01's rows of codes. The train and the box are passed by
-// value: the engine copies them out of the line, has the step decided here, and puts them back.
+// value: the engine copies them out of the line, has the step decided here, and puts back what it changed.
 mod moves;
 pub mod requests;
 pub mod sight;
@@ -13,11 +13,10 @@ ghost use mathlib.Core.Path.{_≡_};
 ghost use Rattle.deciding.specs.Sight.{aroundIn};
 ghost use Rattle.deciding.specs.Decided.{concernedBox, refusing, asking, plainly, decided};
 
-// A step decided: its code, and the train and the box after it.
-pub struct Decided {
-    pub code: u8,
-    pub train: Train,
-    pub switchbox: SwitchBox,
+// A step decided: refused with a code, nothing changed; or a code, and the train and the box after it.
+pub enum Decided {
+    Refused(u8),
+    Changed(u8, Train, SwitchBox),
 }
 
 // The box that a step of this kind concerns: for kind 3 the box of the message, for 5 the box ahead, for 6 the box passed; else 0.
@@ -41,15 +40,11 @@ pub fn concerned(
     }
 }
 
-// A refused step: train and box as they were.
-pub(crate) fn refused(code: u8, r: Train, x: SwitchBox) -> Decided
-    ensures { λ d. ⌜ d ≡ refusing code r x ⌝ }
+// A refused step.
+pub(crate) fn refused(code: u8) -> Decided
+    ensures { λ d. ⌜ d ≡ refusing code ⌝ }
 {
-    Decided {
-        code,
-        train: r,
-        switchbox: x,
-    }
+    Decided::Refused(code)
 }
 
 // Kinds 1 and 2: code 14, then the request.
@@ -67,7 +62,7 @@ fn ask(
     ensures { λ d. ⌜ d ≡ asking known (aroundIn (now (a .entry)) (now (b .entry)) (now (kinds .entry)) (now (routes .entry)) number r) r q x ⌝ }
 {
     if !known {
-        return refused(14, r, x);
+        return refused(14);
     }
     let v = around(number, r, routes, a, b, kinds);
     requests::send(v, r, q, x)
@@ -90,10 +85,10 @@ fn plain(
     ensures { λ d. ⌜ d ≡ plainly kind at known (aroundIn (now (a .entry)) (now (b .entry)) (now (kinds .entry)) (now (routes .entry)) number r) r p x ⌝ }
 {
     if at != 0 {
-        return refused(13, r, x);
+        return refused(13);
     }
     if !known {
-        return refused(14, r, x);
+        return refused(14);
     }
     match kind {
         3 => requests::answer(around(number, r, routes, a, b, kinds), r, p, x),
@@ -134,6 +129,6 @@ pub fn decide(
         ),
         2 => ask(known, Request::Lock(at), number, r, x, routes, a, b, kinds),
         3..=6 => plain(kind, at, known, number, r, p, x, routes, a, b, kinds),
-        _ => refused(13, r, x),
+        _ => refused(13),
     }
 }

@@ -8,7 +8,7 @@ use rules::SwitchBox;
 use rules::Train;
 ghost use mathlib.Core.Path.{_≡_};
 ghost use Rattle.rules.specs.Rows.{first};
-ghost use Rattle.rules.specs.Steps.{enterRows, clearRows, entered, sensed, cleared, released};
+ghost use Rattle.rules.specs.Steps.{enterRows, released};
 ghost use Rattle.deciding.specs.Decided.{entering, clearing};
 
 // Codes 20, 16 and 19 of Enter.
@@ -42,7 +42,7 @@ pub(crate) fn enter(v: Around, r: Train, x: SwitchBox) -> Decided
 {
     let code = enter_code(v, r);
     if code != 0 {
-        return refused(code, r, x);
+        return refused(code);
     }
     let message = r.message;
     let train = Train {
@@ -63,11 +63,7 @@ pub(crate) fn enter(v: Around, r: Train, x: SwitchBox) -> Decided
         left: x.left,
         right: x.right,
     };
-    Decided {
-        code: 0,
-        train,
-        switchbox,
-    }
+    Decided::Changed(0, train, switchbox)
 }
 
 // The box that a train has passed: sensor passive, lock free, the reservations of both segments free.
@@ -90,7 +86,7 @@ pub(crate) fn clear(v: Around, r: Train, p: BoxPlan, x: SwitchBox) -> Decided
     ensures { λ d. ⌜ d ≡ clearing v r p x ⌝ }
 {
     if r.covered <= 1 {
-        return refused(20, r, x);
+        return refused(20);
     }
     let message = r.message;
     let train = Train {
@@ -103,9 +99,5 @@ pub(crate) fn clear(v: Around, r: Train, p: BoxPlan, x: SwitchBox) -> Decided
         lock: r.lock,
         message,
     };
-    Decided {
-        code: 0,
-        train,
-        switchbox: released(p, x, v.tail, v.second),
-    }
+    Decided::Changed(0, train, released(p, x, v.tail, v.second))
 }

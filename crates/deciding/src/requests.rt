@@ -136,13 +136,9 @@ pub(crate) fn send(v: Around, r: Train, q: Request, x: SwitchBox) -> Decided
 {
     let code = request_code(v, r, q);
     if code != 0 {
-        return refused(code, r, x);
+        return refused(code);
     }
-    Decided {
-        code: 0,
-        train: with_message(r, Message::Sent(q)),
-        switchbox: x,
-    }
+    Decided::Changed(0, with_message(r, Message::Sent(q)), x)
 }
 
 // The train that segment s is reserved for at a box, 0 where there is none.
@@ -296,17 +292,9 @@ fn reply(v: Around, r: Train, p: BoxPlan, x: SwitchBox, q: Request) -> Decided
     let code = box_code(v, p, x, q);
     let train = with_message(r, Message::Answered(q, code));
     if code != 0 {
-        return Decided {
-            code,
-            train,
-            switchbox: x,
-        };
+        return Decided::Changed(code, train, x);
     }
-    Decided {
-        code: 0,
-        train,
-        switchbox: granted(v, p, x, q),
-    }
+    Decided::Changed(0, train, granted(v, p, x, q))
 }
 
 // Kind 3: the box answers a message that is sent.
@@ -315,9 +303,9 @@ pub(crate) fn answer(v: Around, r: Train, p: BoxPlan, x: SwitchBox) -> Decided
 {
     let message = r.message;
     match message {
-        Message::Idle => refused(21, r, x),
+        Message::Idle => refused(21),
         Message::Sent(q) => reply(v, r, p, x, q),
-        Message::Answered(_, _) => refused(21, r, x),
+        Message::Answered(_, _) => refused(21),
     }
 }
 
@@ -377,12 +365,8 @@ pub(crate) fn hear(v: Around, r: Train, x: SwitchBox) -> Decided
 {
     let message = r.message;
     match message {
-        Message::Idle => refused(21, r, x),
-        Message::Sent(_) => refused(21, r, x),
-        Message::Answered(q, code) => Decided {
-            code,
-            train: heard(v, r, q, code),
-            switchbox: x,
-        },
+        Message::Idle => refused(21),
+        Message::Sent(_) => refused(21),
+        Message::Answered(q, code) => Decided::Changed(code, heard(v, r, q, code), x),
     }
 }

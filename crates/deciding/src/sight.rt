@@ -1,6 +1,6 @@
 // What stands around a train.
 use rules::Around;
-use rules::Table;
+use rules::BoxPlan;
 use rules::Train;
 ghost use mathlib.Core.Path.{_≡_};
 ghost use Prim.Native.Nat.{_-_};
@@ -10,13 +10,13 @@ ghost use Rattle.layout.specs.Ends.{column};
 ghost use Rattle.deciding.specs.Sight.{kindOf, farIn, nearIn, aroundIn};
 
 // The kind of each box, by its number.
-pub fn kinds(t: Table) -> [u8; 256]
-    ensures { λ r. ⌜ r ≡ column (kindOf t) ⌝ }
+pub fn kinds(plans: [BoxPlan; 96]) -> [u8; 256]
+    ensures { λ r. ⌜ r ≡ column (kindOf plans) ⌝ }
 {
     let mut all = [0u8; 256];
     let mut i: usize = 0;
     while i < 96 {
-        let p = t.boxes[i];
+        let p = plans[i];
         i += 1;
         all[i] = p.kind;
     }

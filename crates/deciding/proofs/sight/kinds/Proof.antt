@@ -12,10 +12,10 @@ use Rattle.deciding.proofs.sight.kinds.Statement.{statement}
 use Rattle.deciding.proofs.sight.kinds.Tie as tie
 
 abbrev Inv-loop : tie.InvT-loop
-Inv-loop t all₀ i₀ all i = (i ≤ 96) × Filled 256 (kindOf t) i all
+Inv-loop plans all₀ i₀ all i = (i ≤ 96) × Filled 256 (kindOf plans) i all
 
 abbrev μ-loop : tie.MeasureT-loop
-μ-loop t all₀ i₀ all i = 96 - i
+μ-loop plans all₀ i₀ all i = 96 - i
 
 loop-holds : tie.Need-loop-holds Inv-loop μ-loop
 loop-holds c = (omega arith, fill-start 256 _ (kind-none _))
@@ -23,8 +23,8 @@ loop-holds c = (omega arith, fill-start 256 _ (kind-none _))
 mul-p : tie.Need-mul-p Inv-loop μ-loop
 mul-p c = omega arith
 
-element-copy-out-p : tie.Need-element-copy-out-p Inv-loop μ-loop
-element-copy-out-p c = omega arith
+array-copy-out-p : tie.Need-array-copy-out-p Inv-loop μ-loop
+array-copy-out-p c = omega arith
 
 add-i : tie.Need-add-i Inv-loop μ-loop
 add-i c = omega arith
@@ -55,7 +55,7 @@ kinds-spec =
     μ-loop
     loop-holds
     mul-p
-    element-copy-out-p
+    array-copy-out-p
     add-i
     array-write-all
     loop-less

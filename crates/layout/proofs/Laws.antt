@@ -1,6 +1,7 @@
--- What the conditions of `rules` say of the record at an index, in the words of the functions that test them.
+-- What the conditions on the parts of a table say of the record at an index, in the words of the functions that test them; and
+-- what stands in columns of far boxes.
 use Prim.Native.Nat.{ℕ, zero, suc, _+_, _-_, _≤_, _<_}
-use mathlib.Core.Path.{_≡_, sym, _∙_, ap}
+use mathlib.Core.Path.{_≡_, refl, sym, _∙_, ap}
 use mathlib.Core.Bool.{Bool, true, false, cond, _||_}
 use mathlib.Core.List.{List}
 use native.Mathlib.Decide.{ℕ-discrete, decLt}
@@ -12,29 +13,35 @@ use lib.ListN.{length, getD, set, replicate, length-set, length-replicate, List�
 use lib.Seq.{getD-set-same, getD-set-other, ext-getD}
 use Rattle.rules.specs.declared.Segment.{Segment}
 use Rattle.rules.specs.declared.BoxPlan.{BoxPlan}
+use Rattle.rules.specs.declared.TrainPlan.{TrainPlan}
 use Rattle.rules.specs.declared.Table.{Table}
 use Rattle.rules.specs.Rows.{anyOf, outside, nth, listFrom}
-use Rattle.rules.proofs.Tests.{tests, or-false-left, or-false-right, outside-false-iff, cond-same}
-use Rattle.rules.proofs.Rows.{any-false-at, from-at, from-length, replicate-at}
-use Rattle.rules.specs.Track.{noSegment, noBoxPlan, noTrainPlan, segmentAt, planAt, trainPlanAt, endA, endB, farBox}
-use Rattle.rules.specs.Network.{endsFault, planFault, lists, unlistedFault, boxFault, listedFault, sideFault, hasEndA, hasEndB}
+use Rattle.rules.proofs.Tests.{tests, facts, outside-false-iff, cond-same}
+use Rattle.rules.proofs.Rows.{any-false-at, any-false, nth-at, from-at, from-length, replicate-at}
+use Rattle.rules.specs.Track.{noSegment, noBoxPlan, noTrainPlan, segmentAt, endA, endB, farBox}
+use Rattle.rules.specs.Network.{planFault, lists}
 use Rattle.rules.specs.Placing.{routeShapeFault}
-use Rattle.layout.specs.Ends.{column, endsIn, boxFaultOn}
+use Rattle.layout.specs.Ends.{column, farEnd, endsIn, boxFaultOn}
+use Rattle.layout.specs.Parts.{endsFaultIn, planFaultIn, boxFaultIn, unlistedIn, shapeFaultIn}
 use Rattle.layout.proofs.Column.{column-all}
 
 -- The segment, box and train at index i are those of number i + 1; r is what a function answered for it, and v what a branch found.
-module _ (t : Table) (i : ℕ) (r v : Bool) where
-  pub ends-answer : r ≡ (outside (t .m) (getD (t .segments) i noSegment .a) || outside (t .m) (getD (t .segments) i noSegment .b) || eqb (getD (t .segments) i noSegment .a) (getD (t .segments) i noSegment .b)) → r ≡ v → endsFault t (i + 1) ≡ v
-  unfolding endsFault endA endB segmentAt nth
-  ends-answer e f = rw add-one (sym e ∙ f)
+module _ (i : ℕ) (r v : Bool) where
+  pub ends-answer : (m : ℕ) (a b : List ℕ) → r ≡ (outside m (getD a (i + 1) 0) || outside m (getD b (i + 1) 0) || eqb (getD a (i + 1) 0) (getD b (i + 1) 0)) → r ≡ v → endsFaultIn m a b (i + 1) ≡ v
+  unfolding endsFaultIn
+  ends-answer m a b e f = sym e ∙ f
 
-  pub plan-answer : r ≡ planFault (t .n) (getD (t .boxes) i noBoxPlan) → r ≡ v → planFault (t .n) (planAt t (i + 1)) ≡ v
-  unfolding planAt nth
-  plan-answer e f = rw add-one (sym e ∙ f)
+  pub plan-answer : (n : ℕ) (boxes : List BoxPlan) → r ≡ planFault n (getD boxes i noBoxPlan) → r ≡ v → planFaultIn n boxes (i + 1) ≡ v
+  unfolding planFaultIn
+  plan-answer n boxes e f = rw nth-at (sym e ∙ f)
 
-  pub shape-answer : r ≡ routeShapeFault (getD (t .trains) i noTrainPlan .direction) (getD (t .trains) i noTrainPlan .length) → r ≡ v → routeShapeFault (trainPlanAt t (i + 1) .direction) (trainPlanAt t (i + 1) .length) ≡ v
-  unfolding trainPlanAt nth
-  shape-answer e f = rw add-one (sym e ∙ f)
+  pub box-answer : (boxes : List BoxPlan) (a b : List ℕ) (stem left right : Segment) → stem ≡ endsIn a b (getD boxes i noBoxPlan .stem) → left ≡ endsIn a b (getD boxes i noBoxPlan .left) → right ≡ endsIn a b (getD boxes i noBoxPlan .right) → r ≡ boxFaultOn (i + 1) (getD boxes i noBoxPlan) stem left right → r ≡ v → boxFaultIn boxes a b (i + 1) ≡ v
+  unfolding boxFaultIn
+  box-answer boxes a b stem left right x y z h k = rw nth-at (rw (x, y, z) at (sym h ∙ k))
+
+  pub shape-answer : (trains : List TrainPlan) → r ≡ routeShapeFault (getD trains i noTrainPlan .direction) (getD trains i noTrainPlan .length) → r ≡ v → shapeFaultIn trains (i + 1) ≡ v
+  unfolding shapeFaultIn
+  shape-answer trains e f = rw nth-at (sym e ∙ f)
 
 -- A list of n that is filled with f 0, f 1 and so on: f 0 to f i stand, and the rest is 0.
 pub record Filled (n : ℕ) (f : ℕ → ℕ) (i : ℕ) (l : List ℕ) : Type 0 where
@@ -77,25 +84,30 @@ module _ (n : ℕ) (f : ℕ → ℕ) where
           ]
 
 -- The far box of a segment that is none: 0; and of the segment at index i.
-module _ (t : Table) (d : ℕ) where
-  pub far-none : farBox t d 0 ≡ 0
-  unfolding farBox endA endB segmentAt nth
+module _ (l : List Segment) (d : ℕ) where
+  pub far-none : farEnd l d 0 ≡ 0
+  unfolding farEnd nth
   far-none = cond-same (eqb d 0) 0
 
-  pub far-beyond : length (t .segments) ≡ 96 → (x : ℕ) → 96 < x → farBox t d x ≡ 0
-  unfolding farBox endA endB segmentAt nth
+  pub far-beyond : length l ≡ 96 → (x : ℕ) → 96 < x → farEnd l d x ≡ 0
+  unfolding farEnd nth
   far-beyond e zero h = absurd (omega arith)
   far-beyond e (suc x) h =
-      let none : getD (t .segments) x noSegment ≡ noSegment = List·getD-eq-default (t .segments) noSegment (omega arith) in
+      let none : getD l x noSegment ≡ noSegment = List·getD-eq-default l noSegment (omega arith) in
       ap (λ (s : Segment). cond (eqb d 0) (s .b) (s .a)) none ∙ cond-same (eqb d 0) 0
 
-  pub far-b : (i : ℕ) → d ≡ 0 → getD (t .segments) i noSegment .b ≡ farBox t d (i + 1)
-  unfolding farBox endA endB segmentAt nth
+  pub far-b : (i : ℕ) → d ≡ 0 → getD l i noSegment .b ≡ farEnd l d (i + 1)
+  unfolding farEnd nth
   far-b i e = rw (add-one, eq-eqb d 0 e)
 
-  pub far-a : (i : ℕ) → (d ≡ 0 → ⊥) → getD (t .segments) i noSegment .a ≡ farBox t d (i + 1)
-  unfolding farBox endA endB segmentAt nth
+  pub far-a : (i : ℕ) → (d ≡ 0 → ⊥) → getD l i noSegment .a ≡ farEnd l d (i + 1)
+  unfolding farEnd nth
   far-a i e = rw (add-one, ne-eqb d 0 e)
+
+-- The far boxes of a table are those of its segments.
+pub far-end : (t : Table) (d : ℕ) → farEnd (t .segments) d ≡ farBox t d
+unfolding farEnd farBox endA endB segmentAt
+far-end t d = refl
 
 -- Where code 6 finds nothing, both ends of the segment at index i are at boxes.
 pub record EndsWithin (m : ℕ) (s : Segment) : Type 0 where
@@ -104,52 +116,46 @@ pub record EndsWithin (m : ℕ) (s : Segment) : Type 0 where
   pub b-low : 1 ≤ s .b
   pub b-high : s .b ≤ m
 
-module _ (t : Table) (i : ℕ) where
-  pub ends-within : anyOf (t .n) (endsFault t) ≡ false → i < t .n → EndsWithin (t .m) (getD (t .segments) i noSegment)
-  unfolding endsFault endA endB segmentAt nth
-  ends-within e l =
-      let s = getD (t .segments) i noSegment in
-      let none : (outside (t .m) (s .a) || outside (t .m) (s .b) || eqb (s .a) (s .b)) ≡ false =
-      any-false-at (endsFault t) (t .n) (suc i) e (omega arith) (omega arith) in
-      let both = or-false-left (outside (t .m) (s .a) || outside (t .m) (s .b)) (eqb (s .a) (s .b)) none in
-      let a = or-false-left (outside (t .m) (s .a)) (outside (t .m) (s .b)) both in
-      let b = or-false-right (outside (t .m) (s .a)) (outside (t .m) (s .b)) both in
-      record {
-        a-low = outside-false-iff (t .m) (s .a) .0 a .0;
-        a-high = outside-false-iff (t .m) (s .a) .0 a .1;
-        b-low = outside-false-iff (t .m) (s .b) .0 b .0;
-        b-high = outside-false-iff (t .m) (s .b) .0 b .1;
-      }
+module _ (n m : ℕ) (a b : List ℕ) (none : anyOf n (endsFaultIn m a b) ≡ false) where
+  pub ends-within : (i : ℕ) → i < n → EndsWithin m (endsIn a b (i + 1))
+  unfolding endsFaultIn
+  ends-within i h =
+      let both = simp (facts, outside-false-iff) at (any-false-at (endsFaultIn m a b) n (i + 1) none (omega arith) (omega arith)) in
+      omega arith
 
-  -- What was found at the two boxes of its ends.
-  plan-before : (b : ℕ) → 1 ≤ b → getD (t .boxes) (b - 1) noBoxPlan ≡ planAt t b
-  unfolding planAt nth
-  plan-before zero l = absurd (omega arith)
-  plan-before (suc b) l = let e : suc b - 1 ≡ b = omega arith in rw e
+  -- It finds nothing either where there are more boxes.
+  pub ends-more : (p : ℕ) → m ≤ p → anyOf n (endsFaultIn p a b) ≡ false
+  unfolding endsFaultIn
+  ends-more p k =
+      any-false (endsFaultIn p a b) n λ s l h.
+      let (both, differ) = simp (facts, outside-false-iff) at (any-false-at (endsFaultIn m a b) n s none l h) in
+      simp (facts, outside-false-iff) (omega arith, differ)
 
-  pub listed-a : (r : Bool) (v : Bool) → 1 ≤ getD (t .segments) i noSegment .a → r ≡ lists (getD (t .boxes) (getD (t .segments) i noSegment .a - 1) noBoxPlan) (i + 1) → r ≡ v → lists (planAt t (endA t (i + 1))) (i + 1) ≡ v
-  unfolding endA segmentAt nth
-  listed-a r v l e f = rw add-one (rw add-one at (ap (λ (p : BoxPlan). lists p (i + 1)) (sym (plan-before _ l)) ∙ sym e ∙ f))
+-- What was found at the two boxes of a segment's ends.
+plan-before : (boxes : List BoxPlan) (x : ℕ) → 1 ≤ x → getD boxes (x - 1) noBoxPlan ≡ nth boxes x noBoxPlan
+unfolding nth
+plan-before boxes zero l = absurd (omega arith)
+plan-before boxes (suc x) l = let e : suc x - 1 ≡ x = omega arith in rw e
 
-  pub listed-b : (r : Bool) (v : Bool) → 1 ≤ getD (t .segments) i noSegment .b → r ≡ lists (getD (t .boxes) (getD (t .segments) i noSegment .b - 1) noBoxPlan) (i + 1) → r ≡ v → lists (planAt t (endB t (i + 1))) (i + 1) ≡ v
-  unfolding endB segmentAt nth
-  listed-b r v l e f = rw add-one (rw add-one at (ap (λ (p : BoxPlan). lists p (i + 1)) (sym (plan-before _ l)) ∙ sym e ∙ f))
+pub listed-at : (boxes : List BoxPlan) (x s : ℕ) (r v : Bool) → 1 ≤ x → r ≡ lists (getD boxes (x - 1) noBoxPlan) s → r ≡ v → lists (nth boxes x noBoxPlan) s ≡ v
+listed-at boxes x s r v l e f = ap (λ (p : BoxPlan). lists p s) (sym (plan-before boxes x l)) ∙ sym e ∙ f
 
-pub unlisted-a : (t : Table) (s : ℕ) → lists (planAt t (endA t s)) s ≡ false → unlistedFault t s ≡ true
-unfolding unlistedFault
-unlisted-a t s e = search tests depth 8
+module _ (boxes : List BoxPlan) (a b : List ℕ) (s : ℕ) where
+  pub unlisted-a : lists (nth boxes (getD a s 0) noBoxPlan) s ≡ false → unlistedIn boxes a b s ≡ true
+  unfolding unlistedIn
+  unlisted-a e = search tests depth 8
 
-pub unlisted-b : (t : Table) (s : ℕ) → lists (planAt t (endB t s)) s ≡ false → unlistedFault t s ≡ true
-unfolding unlistedFault
-unlisted-b t s e = search tests depth 8
+  pub unlisted-b : lists (nth boxes (getD b s 0) noBoxPlan) s ≡ false → unlistedIn boxes a b s ≡ true
+  unfolding unlistedIn
+  unlisted-b e = search tests depth 8
 
-pub listed-both : (t : Table) (s : ℕ) → lists (planAt t (endA t s)) s ≡ true → lists (planAt t (endB t s)) s ≡ true → unlistedFault t s ≡ false
-unfolding unlistedFault
-listed-both t s e f = search tests depth 8
+  pub listed-both : lists (nth boxes (getD a s 0) noBoxPlan) s ≡ true → lists (nth boxes (getD b s 0) noBoxPlan) s ≡ true → unlistedIn boxes a b s ≡ false
+  unfolding unlistedIn
+  listed-both e f = search tests depth 8
 
 -- The column of far boxes gives the far box of any segment number.
 pub far-column : (t : Table) (d : ℕ) → length (t .segments) ≡ 96 → (x : ℕ) → getD (column (farBox t d)) x 0 ≡ farBox t d x
-far-column t d e = column-all (farBox t d) (λ x l. far-beyond t d e x (omega arith))
+far-column t d e = column-all (farBox t d) (λ x l. ap (λ (f : ℕ → ℕ). f x) (sym (far-end t d)) ∙ far-beyond (t .segments) d e x (omega arith))
 
 -- The columns give the A end and the B end of any segment number.
 module _ (t : Table) (e : length (t .segments) ≡ 96) where
@@ -160,21 +166,3 @@ module _ (t : Table) (e : length (t .segments) ≡ 96) where
   pub b-column : (x : ℕ) → getD (column (farBox t 0)) x 0 ≡ endB t x
   unfolding farBox
   b-column = far-column t 0 e
-
-same-ends : (a b x y : ℕ) → a ≡ x → b ≡ y → _≡_ {A = Segment} (record { a = a; b = b }) (record { a = x; b = y })
-same-ends a b x y e f = cc
-
-ends-found : (t : Table) (a b : List ℕ) (s : ℕ) → length (t .segments) ≡ 96 → a ≡ column (farBox t 1) → b ≡ column (farBox t 0) → endsIn a b s ≡ segmentAt t s
-unfolding endA endB
-ends-found t a b s e f g =
-    same-ends _ _ _ _ (ap (λ (l : List ℕ). getD l s 0) f ∙ a-column t e s) (ap (λ (l : List ℕ). getD l s 0) g ∙ b-column t e s)
-
--- What code 8 says of the box at index i, by the ends found in the columns.
-pub box-answer : (t : Table) (i : ℕ) (a b : List ℕ) (stem left right : Segment) (r v : Bool) → length (t .segments) ≡ 96 → a ≡ column (farBox t 1) → b ≡ column (farBox t 0) → stem ≡ endsIn a b (getD (t .boxes) i noBoxPlan .stem) → left ≡ endsIn a b (getD (t .boxes) i noBoxPlan .left) → right ≡ endsIn a b (getD (t .boxes) i noBoxPlan .right) → r ≡ boxFaultOn (i + 1) (getD (t .boxes) i noBoxPlan) stem left right → r ≡ v → boxFault t (i + 1) ≡ v
-unfolding boxFault listedFault sideFault hasEndA hasEndB endA endB boxFaultOn planAt nth
-box-answer t i a b stem left right r v e f g x y z h k =
-    let p = getD (t .boxes) i noBoxPlan in
-    let x' = x ∙ ends-found t a b (p .stem) e f g in
-    let y' = y ∙ ends-found t a b (p .left) e f g in
-    let z' = z ∙ ends-found t a b (p .right) e f g in
-    rw add-one (rw (x', y', z', add-one) at (sym h ∙ k))

@@ -3,3 +3,4 @@ pub mod Laws
 pub mod Routes
 pub mod Rising
 pub mod Codes
+pub mod Parts

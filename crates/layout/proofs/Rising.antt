@@ -10,10 +10,12 @@ use lib.ListN.{length, getD, set, replicate, length-set, length-replicate}
 use lib.Seq.{getD-set-same, getD-set-other, set-out}
 use Rattle.rules.specs.declared.Segment.{Segment}
 use Rattle.rules.specs.declared.Table.{Table}
+use Rattle.rules.specs.Rows.{nth, listOf}
 use Rattle.rules.specs.Track.{noSegment, segmentAt, endA, endB}
 use Rattle.rules.specs.Loop.{SegmentOf, chainEnds, hasLoop}
-use Rattle.rules.proofs.Rows.{nth-at}
+use Rattle.rules.proofs.Rows.{nth-at, list-at}
 use Rattle.rules.proofs.Loop.{segment-ends, box-follows, ends-more, ends-loop, rising-no-loop}
+use Rattle.layout.specs.Ends.{endsIn, ringOf}
 use Rattle.layout.specs.Ranks.{Low, Reached, total, told, Ended}
 use Rattle.layout.specs.declared.ranks.Pass.{Pass}
 use Rattle.layout.specs.declared.ranks.Pass.the-variants.{Rising, Raised, TooHigh}
@@ -67,20 +69,9 @@ low-reached t l h =
     }
 
 module _ (t : Table) where
-  -- The segment at index i: it is numbered i + 1.
-  abbrev here : ℕ → Segment
-  here i = getD (t .segments) i noSegment
-
+  -- The segment at index i is numbered i + 1.
   number : (i : ℕ) → i < t .n → SegmentOf t (i + 1)
   number i h = record { low = omega arith; high = omega arith }
-
-  here-a : (i : ℕ) → endA t (i + 1) ≡ here i .a
-  unfolding endA segmentAt
-  here-a i = ap (λ (s : Segment). s .a) (nth-at (t .segments) i noSegment)
-
-  here-b : (i : ℕ) → endB t (i + 1) ≡ here i .b
-  unfolding endB segmentAt
-  here-b i = ap (λ (s : Segment). s .b) (nth-at (t .segments) i noSegment)
 
   -- A segment whose A end has the rank 96 + r ends a chain of r + 1 segments.
   reach : (l : List ℕ) (s r : ℕ) → Reached t l → SegmentOf t s → getD l (endA t s) 0 ≡ 96 + r → List·Memᴰ s (chainEnds t r)
@@ -121,55 +112,79 @@ pub record Passing (t : Table) (before after : List ℕ) (raised : Bool) (i : �
   pub grown : total before + steps raised ≤ total after
   pub rising : raised ≡ false → (s : ℕ) → 1 ≤ s → s ≤ i → getD after (endA t s) 0 < getD after (endB t s) 0
 
+-- The ends of the segment at index i, from the columns.
+module _ (n : ℕ) (a b : List ℕ) (i : ℕ) (h : i < 96) where
+  ring-at : nth (listOf 96 (endsIn a b)) (i + 1) noSegment ≡ endsIn a b (i + 1)
+  ring-at = nth-at _ i noSegment ∙ list-at (endsIn a b) 96 i noSegment h
+
+  ring-a : endA (ringOf n a b) (i + 1) ≡ getD a (i + 1) 0
+  unfolding endA segmentAt
+  ring-a = ap (λ (s : Segment). s .a) ring-at
+
+  ring-b : endB (ringOf n a b) (i + 1) ≡ getD b (i + 1) 0
+  unfolding endB segmentAt
+  ring-b = ap (λ (s : Segment). s .b) ring-at
+
 -- The start of a pass; a segment along which the ranks rise, one along which a rank is raised, one whose A end is too high; and
 -- the end of a pass that raised some rank, and of one that raised none.
-module _ (t : Table) (l : List ℕ) where
-  pub passing-start : Reached t l → Passing t l l false 0
+module _ (n : ℕ) (few : n ≤ 96) (a b l : List ℕ) where
+  abbrev ring : Table
+  ring = ringOf n a b
+
+  pub passing-start : Reached ring l → Passing ring l l false 0
   unfolding steps
   passing-start h =
       record { within = omega arith; reached = h; grown = omega arith; rising = λ e s a b. absurd (omega arith) }
 
-  module _ (now : List ℕ) (f : Bool) (i : ℕ) (p : Passing t l now f i) where
-    pub passing-kept : i < t .n → getD now (here t i .a) 0 < getD now (here t i .b) 0 → Passing t l now f (i + 1)
-    passing-kept h k =
-        record {
-          within = omega arith;
-          reached = p .reached;
-          grown = p .grown;
-          rising = λ e s a b.
-              elim (ℕ-discrete s (i + 1)) [
-                | yes q ↦ rw (q, here-a t i, here-b t i) k
-                | no q ↦ p .rising e s a (omega arith)
-              ];
-        }
+  module _ (now : List ℕ) (f : Bool) (i : ℕ) (p : Passing ring l now f i) where
+    -- Boxes x and y are those at its ends.
+    module _ (x y : ℕ) (at-a : x ≡ getD a (i + 1) 0) (at-b : y ≡ getD b (i + 1) 0) (h : i < n) where
+      here-a : endA ring (i + 1) ≡ x
+      here-a = ring-a n a b i (omega arith) ∙ sym at-a
 
-    pub passing-raised : i < t .n → here t i .b < 256 → getD now (here t i .b) 0 ≤ getD now (here t i .a) 0
-        → getD now (here t i .a) 0 < t .n + 96 → Passing t l (set now (here t i .b) (getD now (here t i .a) 0 + 1)) true (i + 1)
-    unfolding steps
-    passing-raised h w k u =
-        let r = reached-raised t now (i + 1) (p .reached) (number t i h) (rw here-a u) in
-        record {
-          within = omega arith;
-          reached = rw (here-a, here-b) at r;
-          grown = omega (arith, total-set now (here t i .b) (getD now (here t i .a) 0 + 1) (omega arith), p .grown);
-          rising = λ e. absurd (false≢true (sym e));
-        }
+      here-b : endB ring (i + 1) ≡ y
+      here-b = ring-b n a b i (omega arith) ∙ sym at-b
 
-    pub passing-high : i < t .n → t .n + 96 ≤ getD now (here t i .a) 0 → Ended t l now TooHigh
-    unfolding told
-    passing-high h u =
-        record { reached = p .reached; tells = high-loop t now (i + 1) (p .reached) (number t i h) (rw here-a u) }
+      pub passing-kept : getD now x 0 < getD now y 0 → Passing ring l now f (i + 1)
+      passing-kept k =
+          record {
+            within = omega arith;
+            reached = p .reached;
+            grown = p .grown;
+            rising = λ e s u v.
+                elim (ℕ-discrete s (i + 1)) [
+                  | yes q ↦ rw (q, here-a, here-b) k
+                  | no q ↦ p .rising e s u (omega arith)
+                ];
+          }
 
-    pub passed-raised : f ≡ true → Ended t l now Raised
+      pub passing-raised : y < 256 → getD now y 0 ≤ getD now x 0 → getD now x 0 < n + 96
+          → Passing ring l (set now y (getD now x 0 + 1)) true (i + 1)
+      unfolding steps
+      passing-raised w k u =
+          let r = reached-raised ring now (i + 1) (p .reached) (number ring i h) (rw here-a u) in
+          record {
+            within = omega arith;
+            reached = rw (here-a, here-b) at r;
+            grown = omega (arith, total-set now y (getD now x 0 + 1) (omega arith), p .grown);
+            rising = λ e. absurd (false≢true (sym e));
+          }
+
+      pub passing-high : n + 96 ≤ getD now x 0 → Ended ring l now TooHigh
+      unfolding told
+      passing-high u =
+          record { reached = p .reached; tells = high-loop ring now (i + 1) (p .reached) (number ring i h) (rw here-a u) }
+
+    pub passed-raised : f ≡ true → Ended ring l now Raised
     unfolding told steps
     passed-raised e = let g = rw e at (p .grown) in record { reached = p .reached; tells = omega arith }
 
-    pub passed-rising : f ≡ false → t .n ≤ i → Ended t l now Rising
+    pub passed-rising : f ≡ false → n ≤ i → Ended ring l now Rising
     unfolding told
     passed-rising e h =
         record {
           reached = p .reached;
-          tells = rising-no-loop t (λ x. getD now x 0) (λ s k. p .rising e s (k .low) (omega arith));
+          tells = rising-no-loop ring (λ x. getD now x 0) (λ s k. p .rising e s (k .low) (omega arith));
         }
 
 -- What the end of a pass says of loops; and what is left of the sum that ranks can have, which is less after each pass that

@@ -1,4 +1,4 @@
--- What the conditions of `rules` say of routes, in the words of the functions that test them.
+-- What the conditions on routes say, in the words of the functions that test them.
 use Prim.Native.Nat.{ℕ, zero, suc, _+_, _-_, _*_, _≤_, _<_}
 use mathlib.Core.Path.{_≡_, refl, sym, _∙_}
 use mathlib.Core.Bool.{Bool, true, false, not, _&&_, _||_}
@@ -10,11 +10,13 @@ use lib.Dec.{eqb, ltb}
 use lib.ListN.{length, getD}
 use Rattle.rules.proofs.Tests.{tests, outside-false-iff}
 use Rattle.rules.proofs.Rows.{none-found, any-same, nth-at, route-at, route-first}
+use Rattle.rules.specs.declared.TrainPlan.{TrainPlan}
 use Rattle.rules.specs.declared.Table.{Table}
 use Rattle.rules.specs.Rows.{outside, anyOf}
-use Rattle.rules.specs.Track.{noTrainPlan, trainPlanAt, routeAt, nearBox, farBox, follows}
-use Rattle.rules.specs.Placing.{routePlaceFault, routeFault, startFault}
+use Rattle.rules.specs.Track.{noTrainPlan, routeAt, nearBox, farBox, follows}
+use Rattle.rules.specs.Placing.{routePlaceFault, routeFault}
 use Rattle.layout.specs.Ends.{column, placeBreaks, routeFaultIn, sharesStart}
+use Rattle.layout.specs.Parts.{trainFaultIn, startFaultIn}
 use Rattle.layout.proofs.Laws.{a-column, b-column}
 
 -- The segment at the place with index p of train i's route.
@@ -81,10 +83,9 @@ module _ (t : Table) (a b routes : List ℕ) (i d r : ℕ) (sized : length (t .s
       ]
 
 -- What code 11 says of the train with index i; r is what a function answered for it, and v what a branch found.
-pub route-answer : (t : Table) (a b : List ℕ) (i : ℕ) (r v : Bool) → length (t .segments) ≡ 96 → a ≡ column (farBox t 1) → b ≡ column (farBox t 0) → i < 16 → r ≡ routeFaultIn (t .n) a b (t .routes) (i + 1) (getD (t .trains) i noTrainPlan .direction) (getD (t .trains) i noTrainPlan .length) → r ≡ v → routeFault t (t .routes) (i + 1) (trainPlanAt t (i + 1) .direction) (trainPlanAt t (i + 1) .length) ≡ v
-unfolding trainPlanAt
-route-answer t a b i r v sized ends-a ends-b h e f =
-    rw nth-at (sym (route-in t a b (t .routes) (i + 1) _ _ sized ends-a ends-b (omega arith) (omega arith)) ∙ sym e ∙ f)
+pub route-answer : (n : ℕ) (trains : List TrainPlan) (routes a b : List ℕ) (i : ℕ) (r v : Bool) → r ≡ routeFaultIn n a b routes (i + 1) (getD trains i noTrainPlan .direction) (getD trains i noTrainPlan .length) → r ≡ v → trainFaultIn n trains routes a b (i + 1) ≡ v
+unfolding trainFaultIn
+route-answer n trains routes a b i r v e f = rw nth-at (sym e ∙ f)
 
 -- Code 12 at the trains with indices i and j.
 module _ (routes : List ℕ) (i j : ℕ) where
@@ -97,6 +98,6 @@ module _ (routes : List ℕ) (i j : ℕ) where
   starts-differ e = rw (route-first routes i, route-first routes j) (ne-eqb _ _ e)
 
 -- Code 12 at the train with index i; r is what a function answered for it, and v what a branch found.
-pub start-answer : (t : Table) (i : ℕ) (r v : Bool) → r ≡ anyOf i (sharesStart (t .routes) (i + 1)) → r ≡ v → startFault t (i + 1) ≡ v
-unfolding startFault sharesStart
-start-answer t i r v e f = let h : i + 1 - 1 ≡ i = omega arith in rw h (sym e ∙ f)
+pub start-answer : (routes : List ℕ) (i : ℕ) (r v : Bool) → r ≡ anyOf i (sharesStart routes (i + 1)) → r ≡ v → startFaultIn routes (i + 1) ≡ v
+unfolding startFaultIn
+start-answer routes i r v e f = let h : i + 1 - 1 ≡ i = omega arith in rw h (sym e ∙ f)

@@ -3,14 +3,15 @@ pub mod network;
 pub mod placing;
 mod ranks;
 
+use rules::BoxPlan;
 use rules::Table;
+use rules::TrainPlan;
 ghost use mathlib.Core.Path.{_≡_};
 ghost use Prim.Native.Nat.{_≤_};
 ghost use Rattle.rules.specs.Rows.{first};
-ghost use Rattle.rules.specs.Track.{farBox};
-ghost use Rattle.rules.specs.Network.{headRows, networkRows};
-ghost use Rattle.rules.specs.Placing.{placingRows, tableCode};
-ghost use Rattle.layout.specs.Ends.{column};
+ghost use Rattle.rules.specs.Network.{headRows};
+ghost use Rattle.rules.specs.Placing.{tableCode};
+ghost use Rattle.layout.specs.Parts.{networkRowsIn, placingRowsIn, partsCode};
 
 // Codes 3 and 4: the version, and the numbers of segments, boxes and trains.
 pub fn head_code(version: u16, n: u8, m: u8, k: u8) -> u8
@@ -35,63 +36,87 @@ pub fn head_code(version: u16, n: u8, m: u8, k: u8) -> u8
 }
 
 // Codes 6 to 9 of a table record within its limits, with the boxes at the A ends and at the B ends of its segments.
-fn network_code(t: Table, a: &[u8; 256], b: &[u8; 256]) -> u8
-    requires { ⌜ t .n ≤ 96 ⌝ }
-    requires { ⌜ t .m ≤ 96 ⌝ }
-    requires { ⌜ now a ≡ column (farBox t 1) ⌝ }
-    requires { ⌜ now b ≡ column (farBox t 0) ⌝ }
-    ensures { λ r. ⌜ r ≡ first (networkRows t) ⌝ }
+fn network_code(n: u8, m: u8, boxes: [BoxPlan; 96], a: &[u8; 256], b: &[u8; 256]) -> u8
+    requires { ⌜ n ≤ 96 ⌝ }
+    requires { ⌜ m ≤ 96 ⌝ }
+    ensures { λ r. ⌜ r ≡ first (networkRowsIn n m boxes (now (a .entry)) (now (b .entry))) ⌝ }
 {
-    if network::some_ends_faulty(t) {
+    if network::some_ends_faulty(n, m, a, b) {
         return 6;
     }
-    if network::some_plan_faulty(t) {
+    if network::some_plan_faulty(n, m, boxes) {
         return 7;
     }
-    if network::some_box_faulty(t, a, b) {
+    if network::some_box_faulty(m, boxes, a, b) {
         return 8;
     }
-    if network::some_unlisted(t) {
+    if network::some_unlisted(n, boxes, a, b) {
         return 8;
     }
-    if ranks::has_loop(t) {
+    if ranks::has_loop(n, m, boxes, a, b) {
         return 9;
     }
     0
 }
 
 // Codes 10 to 12 of a table record within its limits, with the same boxes.
-fn placing_code(t: Table, a: &[u8; 256], b: &[u8; 256]) -> u8
-    requires { ⌜ t .k ≤ 16 ⌝ }
-    requires { ⌜ now a ≡ column (farBox t 1) ⌝ }
-    requires { ⌜ now b ≡ column (farBox t 0) ⌝ }
-    ensures { λ r. ⌜ r ≡ first (placingRows t) ⌝ }
+fn placing_code(
+    n: u8,
+    k: u8,
+    trains: [TrainPlan; 16],
+    routes: &[u8; 1024],
+    a: &[u8; 256],
+    b: &[u8; 256],
+) -> u8
+    requires { ⌜ k ≤ 16 ⌝ }
+    ensures { λ r. ⌜ r ≡ first (placingRowsIn n k trains (now (routes .entry)) (now (a .entry)) (now (b .entry))) ⌝ }
 {
-    if placing::some_shape_faulty(t) {
+    if placing::some_shape_faulty(k, trains) {
         return 10;
     }
-    if placing::some_route_faulty(t, a, b) {
+    if placing::some_route_faulty(n, k, trains, routes, a, b) {
         return 11;
     }
-    if placing::some_start_shared(t) {
+    if placing::some_start_shared(k, routes) {
         return 12;
     }
     0
 }
 
-// The code of a table record: 3, 4 and 6 to 12 in their order, or 0.
-pub fn table_code(t: Table) -> u8
-    ensures { λ r. ⌜ r ≡ tableCode t ⌝ }
+// The code of a table record by its parts, with the boxes at the A ends and at the B ends of segments by their numbers: 3, 4 and 6
+// to 12 in their order, or 0.
+pub fn parts_code(
+    version: u16,
+    n: u8,
+    m: u8,
+    k: u8,
+    boxes: [BoxPlan; 96],
+    trains: [TrainPlan; 16],
+    routes: &[u8; 1024],
+    a: &[u8; 256],
+    b: &[u8; 256],
+) -> u8
+    ensures { λ r. ⌜ r ≡ partsCode version n m k boxes trains (now (routes .entry)) (now (a .entry)) (now (b .entry)) ⌝ }
 {
-    let head = head_code(t.version, t.n, t.m, t.k);
+    let head = head_code(version, n, m, k);
     if head != 0 {
         return head;
     }
-    let a = network::far_boxes(t, 1);
-    let b = network::far_boxes(t, 0);
-    let network = network_code(t, &a, &b);
+    let network = network_code(n, m, boxes, a, b);
     if network != 0 {
         return network;
     }
-    placing_code(t, &a, &b)
+    placing_code(n, k, trains, routes, a, b)
+}
+
+// The code of a table record.
+pub fn table_code(t: Table) -> u8
+    ensures { λ r. ⌜ r ≡ tableCode t ⌝ }
+{
+    let segments = t.segments;
+    let boxes = t.boxes;
+    let trains = t.trains;
+    let a = network::far_boxes(segments, 1);
+    let b = network::far_boxes(segments, 0);
+    parts_code(t.version, t.n, t.m, t.k, boxes, trains, &t.routes, &a, &b)
 }

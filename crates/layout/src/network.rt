@@ -1,15 +1,15 @@
 // Codes 6, 7 and 8: the ends of segments, the plans of boxes, and the listing of segments at boxes.
 use rules::BoxPlan;
 use rules::Segment;
-use rules::Table;
 ghost use mathlib.Core.Path.{_≡_};
 ghost use mathlib.Core.Bool.{false, not, _&&_, _||_};
 ghost use Prim.Native.Nat.{_≤_};
 ghost use lib.Dec.{eqb};
 ghost use Rattle.rules.specs.Rows.{anyOf, outside};
-ghost use Rattle.rules.specs.Track.{planAt, farBox, isPoint, positionFits};
-ghost use Rattle.rules.specs.Network.{endsFault, placeFault, planFault, lists, boxFault, unlistedFault};
-ghost use Rattle.layout.specs.Ends.{column, endsIn, boxFaultOn};
+ghost use Rattle.rules.specs.Track.{isPoint, positionFits};
+ghost use Rattle.rules.specs.Network.{placeFault, planFault, lists};
+ghost use Rattle.layout.specs.Ends.{column, farEnd, endsIn, boxFaultOn};
+ghost use Rattle.layout.specs.Parts.{endsFaultIn, planFaultIn, boxFaultIn, unlistedIn};
 
 // x is 0 or above n.
 pub(crate) fn outside(n: u8, x: u8) -> bool
@@ -22,13 +22,13 @@ pub(crate) fn outside(n: u8, x: u8) -> bool
 }
 
 // The box at the far end of each segment in direction d, by the segment's number: B ends for 0, A ends for 1.
-pub fn far_boxes(t: Table, d: u8) -> [u8; 256]
-    ensures { λ r. ⌜ r ≡ column (farBox t d) ⌝ }
+pub fn far_boxes(segments: [Segment; 96], d: u8) -> [u8; 256]
+    ensures { λ r. ⌜ r ≡ column (farEnd segments d) ⌝ }
 {
     let mut boxes = [0u8; 256];
     let mut i: usize = 0;
     while i < 96 {
-        let s = t.segments[i];
+        let s = segments[i];
         i += 1;
         boxes[i] = if d == 0 { s.b } else { s.a };
     }
@@ -49,19 +49,15 @@ fn ends_faulty(m: u8, a: u8, b: u8) -> bool
 }
 
 // Code 6: some segment has an end at no box, or both ends at one box.
-pub(crate) fn some_ends_faulty(t: Table) -> bool
-    requires { ⌜ t .n ≤ 96 ⌝ }
-    ensures { λ r. ⌜ r ≡ anyOf (t .n) (endsFault t) ⌝ }
+pub(crate) fn some_ends_faulty(n: u8, m: u8, a: &[u8; 256], b: &[u8; 256]) -> bool
+    ensures { λ r. ⌜ r ≡ anyOf n (endsFaultIn m (now (a .entry)) (now (b .entry))) ⌝ }
 {
-    let n = t.n as usize;
-    let m = t.m;
-    let mut i: usize = 0;
-    while i < n {
-        let s = t.segments[i];
-        if ends_faulty(m, s.a, s.b) {
+    let mut s: u8 = 0;
+    while s < n {
+        s += 1;
+        if ends_faulty(m, a[s as usize], b[s as usize]) {
             return true;
         }
-        i += 1;
     }
     false
 }
@@ -122,15 +118,14 @@ fn plan_faulty(n: u8, p: BoxPlan) -> bool
 }
 
 // Code 7: some box is not as its kind asks.
-pub(crate) fn some_plan_faulty(t: Table) -> bool
-    requires { ⌜ t .m ≤ 96 ⌝ }
-    ensures { λ r. ⌜ r ≡ anyOf (t .m) (λ b. planFault (t .n) (planAt t b)) ⌝ }
+pub(crate) fn some_plan_faulty(n: u8, m: u8, boxes: [BoxPlan; 96]) -> bool
+    requires { ⌜ m ≤ 96 ⌝ }
+    ensures { λ r. ⌜ r ≡ anyOf m (planFaultIn n boxes) ⌝ }
 {
-    let n = t.n;
-    let m = t.m as usize;
+    let last = m as usize;
     let mut i: usize = 0;
-    while i < m {
-        let p = t.boxes[i];
+    while i < last {
+        let p = boxes[i];
         if plan_faulty(n, p) {
             return true;
         }
@@ -205,18 +200,15 @@ fn box_faulty(number: u8, p: BoxPlan, stem: Segment, left: Segment, right: Segme
 }
 
 // Code 8: some box lists a segment without an end there, or a branch on the stem's side.
-pub(crate) fn some_box_faulty(t: Table, a: &[u8; 256], b: &[u8; 256]) -> bool
-    requires { ⌜ t .m ≤ 96 ⌝ }
-    requires { ⌜ now a ≡ column (farBox t 1) ⌝ }
-    requires { ⌜ now b ≡ column (farBox t 0) ⌝ }
-    ensures { λ r. ⌜ r ≡ anyOf (t .m) (boxFault t) ⌝ }
+pub(crate) fn some_box_faulty(m: u8, boxes: [BoxPlan; 96], a: &[u8; 256], b: &[u8; 256]) -> bool
+    requires { ⌜ m ≤ 96 ⌝ }
+    ensures { λ r. ⌜ r ≡ anyOf m (boxFaultIn boxes (now (a .entry)) (now (b .entry))) ⌝ }
 {
-    let m = t.m;
     let mut number: u8 = 0;
     while number < m {
         let i = number as usize;
         number += 1;
-        let p = t.boxes[i];
+        let p = boxes[i];
         let stem = ends_in(a, b, p.stem);
         let left = ends_in(a, b, p.left);
         let right = ends_in(a, b, p.right);
@@ -241,26 +233,21 @@ fn lists(p: BoxPlan, s: u8) -> bool
 }
 
 // Code 8: some segment is not listed by the box at one of its ends. No end is without its box: code 6 comes before.
-pub(crate) fn some_unlisted(t: Table) -> bool
-    requires { ⌜ t .n ≤ 96 ⌝ }
-    requires { ⌜ t .m ≤ 96 ⌝ }
-    requires { ⌜ anyOf (t .n) (endsFault t) ≡ false ⌝ }
-    ensures { λ r. ⌜ r ≡ anyOf (t .n) (unlistedFault t) ⌝ }
+pub(crate) fn some_unlisted(n: u8, boxes: [BoxPlan; 96], a: &[u8; 256], b: &[u8; 256]) -> bool
+    requires { ⌜ anyOf n (endsFaultIn 96 (now a) (now b)) ≡ false ⌝ }
+    ensures { λ r. ⌜ r ≡ anyOf n (unlistedIn boxes (now (a .entry)) (now (b .entry))) ⌝ }
 {
-    let n = t.n;
     let mut number: u8 = 0;
     while number < n {
-        let i = number as usize;
         number += 1;
-        let s = t.segments[i];
-        let at_a = (s.a - 1) as usize;
-        let at_b = (s.b - 1) as usize;
-        let a = t.boxes[at_a];
-        let b = t.boxes[at_b];
-        if !lists(a, number) {
+        let at_a = (a[number as usize] - 1) as usize;
+        let at_b = (b[number as usize] - 1) as usize;
+        let p = boxes[at_a];
+        let q = boxes[at_b];
+        if !lists(p, number) {
             return true;
         }
-        if !lists(b, number) {
+        if !lists(q, number) {
             return true;
         }
     }

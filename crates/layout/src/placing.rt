@@ -1,15 +1,15 @@
 // Codes 10, 11 and 12: the shape of routes, their segments, and the first segments of trains.
 use super::network;
-use rules::Table;
+use rules::TrainPlan;
 ghost use mathlib.Core.Path.{_≡_};
 ghost use mathlib.Core.Bool.{false, not};
 ghost use Prim.Native.Nat.{_+_, _≤_};
 ghost use lib.Dec.{eqb};
 ghost use lib.ListN.{getD};
 ghost use Rattle.rules.specs.Rows.{anyOf};
-ghost use Rattle.rules.specs.Track.{trainPlanAt, farBox};
-ghost use Rattle.rules.specs.Placing.{routeShapeFault, routeFault, startFault};
-ghost use Rattle.layout.specs.Ends.{column, placeBreaks, routeFaultIn, sharesStart};
+ghost use Rattle.rules.specs.Placing.{routeShapeFault};
+ghost use Rattle.layout.specs.Ends.{placeBreaks, routeFaultIn, sharesStart};
+ghost use Rattle.layout.specs.Parts.{shapeFaultIn, trainFaultIn, startFaultIn};
 
 // Code 10 on a train's direction and route length.
 pub fn shape_faulty(d: u8, r: u8) -> bool
@@ -22,14 +22,14 @@ pub fn shape_faulty(d: u8, r: u8) -> bool
 }
 
 // Code 10: some train has a direction above 1, or a route length outside 1 to 64.
-pub(crate) fn some_shape_faulty(t: Table) -> bool
-    requires { ⌜ t .k ≤ 16 ⌝ }
-    ensures { λ r. ⌜ r ≡ anyOf (t .k) (λ i. routeShapeFault (trainPlanAt t i .direction) (trainPlanAt t i .length)) ⌝ }
+pub(crate) fn some_shape_faulty(k: u8, trains: [TrainPlan; 16]) -> bool
+    requires { ⌜ k ≤ 16 ⌝ }
+    ensures { λ r. ⌜ r ≡ anyOf k (shapeFaultIn trains) ⌝ }
 {
-    let k = t.k as usize;
+    let last = k as usize;
     let mut i: usize = 0;
-    while i < k {
-        let p = t.trains[i];
+    while i < last {
+        let p = trains[i];
         if shape_faulty(p.direction, p.length) {
             return true;
         }
@@ -107,20 +107,23 @@ pub fn route_faulty(
 }
 
 // Code 11: some route has a segment 0 or above n, or one that does not follow the one before.
-pub(crate) fn some_route_faulty(t: Table, a: &[u8; 256], b: &[u8; 256]) -> bool
-    requires { ⌜ t .k ≤ 16 ⌝ }
-    requires { ⌜ now a ≡ column (farBox t 1) ⌝ }
-    requires { ⌜ now b ≡ column (farBox t 0) ⌝ }
-    ensures { λ r. ⌜ r ≡ anyOf (t .k) (λ i. routeFault t (t .routes) i (trainPlanAt t i .direction) (trainPlanAt t i .length)) ⌝ }
+pub(crate) fn some_route_faulty(
+    n: u8,
+    k: u8,
+    trains: [TrainPlan; 16],
+    routes: &[u8; 1024],
+    a: &[u8; 256],
+    b: &[u8; 256],
+) -> bool
+    requires { ⌜ k ≤ 16 ⌝ }
+    ensures { λ r. ⌜ r ≡ anyOf k (trainFaultIn n trains (now (routes .entry)) (now (a .entry)) (now (b .entry))) ⌝ }
 {
-    let n = t.n;
-    let k = t.k;
     let mut number: u8 = 0;
     while number < k {
         let i = number as usize;
         number += 1;
-        let p = t.trains[i];
-        if route_faulty(&t.routes, number, p.direction, p.length, n, a, b) {
+        let p = trains[i];
+        if route_faulty(routes, number, p.direction, p.length, n, a, b) {
             return true;
         }
     }
@@ -144,14 +147,14 @@ fn start_shared(routes: &[u8; 1024], index: usize) -> bool
 }
 
 // Code 12: two trains begin with one segment.
-pub(crate) fn some_start_shared(t: Table) -> bool
-    requires { ⌜ t .k ≤ 16 ⌝ }
-    ensures { λ r. ⌜ r ≡ anyOf (t .k) (startFault t) ⌝ }
+pub(crate) fn some_start_shared(k: u8, routes: &[u8; 1024]) -> bool
+    requires { ⌜ k ≤ 16 ⌝ }
+    ensures { λ r. ⌜ r ≡ anyOf k (startFaultIn (now (routes .entry))) ⌝ }
 {
-    let k = t.k as usize;
+    let last = k as usize;
     let mut i: usize = 0;
-    while i < k {
-        if start_shared(&t.routes, i) {
+    while i < last {
+        if start_shared(routes, i) {
             return true;
         }
         i += 1;

@@ -2,25 +2,29 @@
 // in which every box comes after those that lead to it, and then raised where they do not rise, until they all do or one is too
 // high for a line without a loop. The guess is right where code 8 passed and there is no loop, so that one pass is enough; that
 // the answer is right does not rest on it.
-use rules::Segment;
-use rules::Table;
+use rules::BoxPlan;
 ghost use mathlib.Core.Path.{_≡_};
 ghost use Prim.Native.Nat.{_≤_, _<_};
 ghost use Rattle.rules.specs.Loop.{hasLoop};
+ghost use Rattle.layout.specs.Ends.{ringOf};
 ghost use Rattle.layout.specs.Ranks.{Low, Reached, Ended};
 
-// How many segments have their B end at each box.
-fn entries(t: Table) -> [u8; 256]
-    requires { ⌜ t .n ≤ 96 ⌝ }
+// A byte as an index of a list of 256.
+fn index(x: u8) -> usize
+    ensures { λ r. ⌜ r ≡ x ⌝ }
+    ensures { λ r. ⌜ r < 256 ⌝ }
 {
-    let n = t.n as usize;
+    x as usize
+}
+
+// How many segments have their B end at each box.
+fn entries(n: u8, b: &[u8; 256]) -> [u8; 256] {
     let mut count = [0u8; 256];
-    let mut i: usize = 0;
-    while i < n {
-        let s = t.segments[i];
-        let b = s.b as usize;
-        count[b] = std::num::wrapping_add_u8(count[b], 1);
-        i += 1;
+    let mut s: u8 = 0;
+    while s < n {
+        s += 1;
+        let x = index(b[s as usize]);
+        count[x] = std::num::wrapping_add_u8(count[x], 1);
     }
     count
 }
@@ -42,13 +46,6 @@ fn sources(m: u8, count: &[u8; 256], order: &mut [u8; 96]) -> usize
     known
 }
 
-// A byte as an index of a list of 256.
-fn index(x: u8) -> usize
-    ensures { λ r. ⌜ r < 256 ⌝ }
-{
-    x as usize
-}
-
 // The index of the record numbered s; 0 where there is none.
 fn place(s: u8) -> usize
     ensures { λ r. ⌜ r < 96 ⌝ }
@@ -60,12 +57,12 @@ fn place(s: u8) -> usize
     0
 }
 
-// The box that segment s, with these ends, leads to from box `number`; 0 for none.
-fn leads_to(number: u8, s: u8, ends: Segment) -> u8 {
-    if s == 0 || ends.a != number {
+// The box that segment s leads to from box `number`; 0 for none.
+fn leads_to(number: u8, s: u8, a: &[u8; 256], b: &[u8; 256]) -> u8 {
+    if s == 0 || a[s as usize] != number {
         return 0;
     }
-    ends.b
+    b[s as usize]
 }
 
 // Box b has one entry less, and with none left it is next in the order. The result is how many boxes the order has.
@@ -88,26 +85,25 @@ fn release(b: u8, count: &mut [u8; 256], order: &mut [u8; 96], known: usize) -> 
 }
 
 // A rank for each box: its place in the order, and 96 for those that the order does not come to.
-fn guess(t: Table) -> [u8; 256]
-    requires { ⌜ t .n ≤ 96 ⌝ }
-    requires { ⌜ t .m ≤ 96 ⌝ }
+fn guess(n: u8, m: u8, boxes: [BoxPlan; 96], a: &[u8; 256], b: &[u8; 256]) -> [u8; 256]
+    requires { ⌜ m ≤ 96 ⌝ }
     ensures { λ r. ⌜ Low r ⌝ }
 {
-    let mut count = entries(t);
+    let mut count = entries(n, b);
     let mut order = [0u8; 96];
-    let mut known = sources(t.m, &count, &mut order);
+    let mut known = sources(m, &count, &mut order);
     let mut ranks = [96u8; 256];
     let mut done: usize = 0;
     while done < known {
         let number = order[done];
         ranks[index(number)] = done as u8;
         done += 1;
-        let p = t.boxes[place(number)];
-        let stem = leads_to(number, p.stem, t.segments[place(p.stem)]);
+        let p = boxes[place(number)];
+        let stem = leads_to(number, p.stem, a, b);
         known = release(stem, &mut count, &mut order, known);
-        let left = leads_to(number, p.left, t.segments[place(p.left)]);
+        let left = leads_to(number, p.left, a, b);
         known = release(left, &mut count, &mut order, known);
-        let right = leads_to(number, p.right, t.segments[place(p.right)]);
+        let right = leads_to(number, p.right, a, b);
         known = release(right, &mut count, &mut order, known);
     }
     ranks
@@ -122,26 +118,24 @@ enum Pass {
 }
 
 // One pass: along each segment in turn, the rank at its B end is raised above the one at its A end, where it is not so already.
-fn raise(t: Table, ranks: &mut [u8; 256]) -> Pass
-    requires { ⌜ t .n ≤ 96 ⌝ }
-    requires { ⌜ Reached t (now ranks) ⌝ }
-    ensures { λ r. ⌜ Ended t (now (ranks .entry)) (now (ranks .exit)) r ⌝ }
+fn raise(n: u8, a: &[u8; 256], b: &[u8; 256], ranks: &mut [u8; 256]) -> Pass
+    requires { ⌜ n ≤ 96 ⌝ }
+    requires { ⌜ Reached (ringOf n (now a) (now b)) (now ranks) ⌝ }
+    ensures { λ r. ⌜ Ended (ringOf n (now (a .entry)) (now (b .entry))) (now (ranks .entry)) (now (ranks .exit)) r ⌝ }
 {
-    let n = t.n as usize;
-    let highest = t.n + 96;
+    let highest = n + 96;
     let mut raised = false;
-    let mut i: usize = 0;
-    while i < n {
-        let s = t.segments[i];
-        i += 1;
-        let a = s.a as usize;
-        let b = s.b as usize;
-        let rank = ranks[a];
-        if ranks[b] <= rank {
+    let mut s: u8 = 0;
+    while s < n {
+        s += 1;
+        let x = index(a[s as usize]);
+        let y = index(b[s as usize]);
+        let rank = ranks[x];
+        if ranks[y] <= rank {
             if rank >= highest {
                 return Pass::TooHigh;
             }
-            ranks[b] = rank + 1;
+            ranks[y] = rank + 1;
             raised = true;
         }
     }
@@ -152,14 +146,14 @@ fn raise(t: Table, ranks: &mut [u8; 256]) -> Pass
 }
 
 // Code 9: some list of segments closes a loop.
-pub(crate) fn has_loop(t: Table) -> bool
-    requires { ⌜ t .n ≤ 96 ⌝ }
-    requires { ⌜ t .m ≤ 96 ⌝ }
-    ensures { λ r. ⌜ r ≡ hasLoop t ⌝ }
+pub(crate) fn has_loop(n: u8, m: u8, boxes: [BoxPlan; 96], a: &[u8; 256], b: &[u8; 256]) -> bool
+    requires { ⌜ n ≤ 96 ⌝ }
+    requires { ⌜ m ≤ 96 ⌝ }
+    ensures { λ r. ⌜ r ≡ hasLoop (ringOf n (now (a .entry)) (now (b .entry))) ⌝ }
 {
-    let mut ranks = guess(t);
+    let mut ranks = guess(n, m, boxes, a, b);
     loop {
-        let pass = raise(t, &mut ranks);
+        let pass = raise(n, a, b, &mut ranks);
         match pass {
             Pass::Rising => return false,
             Pass::TooHigh => return true,

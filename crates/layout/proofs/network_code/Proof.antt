@@ -1,7 +1,8 @@
 use Rattle.rules.proofs.Tests.{tests, answered}
 use Rattle.rules.specs.Rows.{first}
-use Rattle.rules.specs.Network.{networkRows}
 use borrow.Author.Needs.{needs}
+use Rattle.layout.specs.Parts.{networkRowsIn}
+use Rattle.layout.proofs.Laws.{ends-more}
 use Rattle.layout.proofs.network_code.Statement.{statement}
 use Rattle.layout.proofs.network_code.Tie as tie
 
@@ -9,39 +10,41 @@ some-ends-faulty-requires : tie.Need-some-ends-faulty-requires
 some-ends-faulty-requires c κs = search needs
 
 returns : tie.Need-returns
-unfolding networkRows
+unfolding networkRowsIn
 returns c = search tests depth 20 fits 20000
 
 some-plan-faulty-requires : tie.Need-some-plan-faulty-requires
 some-plan-faulty-requires c κs = search needs
 
 returns-2 : tie.Need-returns-2
-unfolding networkRows
+unfolding networkRowsIn
 returns-2 c = search tests depth 20 fits 20000
 
 some-box-faulty-requires : tie.Need-some-box-faulty-requires
 some-box-faulty-requires c κs = search needs
 
 returns-3 : tie.Need-returns-3
-unfolding networkRows
+unfolding networkRowsIn
 returns-3 c = search tests depth 20 fits 20000
 
 some-unlisted-requires : tie.Need-some-unlisted-requires
-some-unlisted-requires c κs = search (needs, answered)
+some-unlisted-requires c κs =
+    let p = c .before .before .before .before .before in
+    ends-more _ _ _ _ (answered _ _ _ (p .some-ends-faulty .ensures) (c .before .before .before .before .if1 .left)) 96 (p .before .pre .1)
 
 returns-4 : tie.Need-returns-4
-unfolding networkRows
+unfolding networkRowsIn
 returns-4 c = search tests depth 20 fits 20000
 
 has-loop-requires : tie.Need-has-loop-requires
 has-loop-requires c κs = search needs
 
 returns-5 : tie.Need-returns-5
-unfolding networkRows
+unfolding networkRowsIn
 returns-5 c = search tests depth 20 fits 20000
 
 returns-6 : tie.Need-returns-6
-unfolding networkRows first
+unfolding networkRowsIn first
 returns-6 c = search tests depth 20 fits 20000
 
 pub network-code-spec : {M : Type 1} → statement M

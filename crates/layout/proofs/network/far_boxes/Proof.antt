@@ -1,39 +1,20 @@
 -- The loop has stored the boxes of the segments before.
 use Prim.Native.Nat.{_-_, _≤_}
 use mathlib.Core.Path.{_≡_, _∙_}
-use native.Mathlib.Omega.{arith}
 use mathlib.Core.Logic.{⊎-elim}
+use native.Mathlib.Omega.{arith}
 use borrow.Author.Needs.{needs}
-use Rattle.rules.specs.Track.{farBox}
-use Rattle.layout.specs.Ends.{column}
-use Rattle.layout.proofs.Laws.{Filled, fill-start, fill-turn, fill-end, far-none, far-beyond, far-a, far-b}
 use Rattle.rules.proofs.Rows.{length-mapped}
+use Rattle.layout.specs.Ends.{column, farEnd}
+use Rattle.layout.proofs.Laws.{Filled, fill-start, fill-turn, fill-end, far-none, far-beyond, far-a, far-b}
 use Rattle.layout.proofs.network.far_boxes.Statement.{statement}
 use Rattle.layout.proofs.network.far_boxes.Tie as tie
 
 abbrev Inv-loop : tie.InvT-loop
-Inv-loop d t boxes₀ i₀ boxes i = (i ≤ 96) × Filled 256 (farBox t d) i boxes
+Inv-loop d segments boxes₀ i₀ boxes i = (i ≤ 96) × Filled 256 (farEnd segments d) i boxes
 
 abbrev μ-loop : tie.MeasureT-loop
-μ-loop d t boxes₀ i₀ boxes i = 96 - i
-
-loop-holds : tie.Need-loop-holds Inv-loop μ-loop
-loop-holds c = (omega arith, fill-start 256 _ (far-none _ _))
-
-mul-s : tie.Need-mul-s Inv-loop μ-loop
-mul-s c = omega arith
-
-element-copy-out-s : tie.Need-element-copy-out-s Inv-loop μ-loop
-element-copy-out-s c = omega arith
-
-add-i : tie.Need-add-i Inv-loop μ-loop
-add-i c = omega arith
-
-array-write-boxes : tie.Need-array-write-boxes Inv-loop μ-loop
-array-write-boxes c = omega arith
-
-loop-less : tie.Need-loop-less Inv-loop μ-loop
-loop-less c = omega arith
+μ-loop d segments boxes₀ i₀ boxes i = 96 - i
 
 loop-again : tie.Need-loop-again Inv-loop μ-loop
 loop-again c = (
@@ -54,11 +35,11 @@ far-boxes-spec =
     (tie.spec
     Inv-loop
     μ-loop
-    loop-holds
-    mul-s
-    element-copy-out-s
-    add-i
-    array-write-boxes
-    loop-less
+    (λ c. (omega arith, fill-start 256 _ (far-none _ _)))
+    (λ c. search needs)
+    (λ c. search needs)
+    (λ c. search needs)
+    (λ c. search needs)
+    (λ c. search needs)
     loop-again
     returns)

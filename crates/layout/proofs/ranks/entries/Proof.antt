@@ -5,10 +5,10 @@ use Rattle.layout.proofs.ranks.entries.Statement.{statement}
 use Rattle.layout.proofs.ranks.entries.Tie as tie
 
 abbrev Inv-loop : tie.InvT-loop
-Inv-loop t n count₀ i₀ count i = i ≤ n
+Inv-loop n b count₀ s₀ count s = s ≤ n
 
 abbrev μ-loop : tie.MeasureT-loop
-μ-loop t n count₀ i₀ count i = n - i
+μ-loop n b count₀ s₀ count s = n - s
 
 pub entries-spec : {M : Type 1} → statement M
 entries-spec =
@@ -20,10 +20,9 @@ entries-spec =
     (λ c. search needs)
     (λ c. search needs)
     (λ c. search needs)
-    (λ c. search needs)
-    (λ c. search needs)
     (λ c κs. search needs)
     (λ c. search needs)
+    (λ c κs. search needs)
     (λ c. search needs)
     (λ c. search needs)
     (λ c. search needs)

@@ -7,10 +7,10 @@ use Rattle.layout.proofs.ranks.guess.Statement.{statement}
 use Rattle.layout.proofs.ranks.guess.Tie as tie
 
 abbrev Inv-loop : tie.InvT-loop
-Inv-loop t count₀ order₀ known₀ ranks₀ done₀ count order known ranks done = (known ≤ 96) × Low ranks
+Inv-loop n m a b boxes count₀ order₀ known₀ ranks₀ done₀ count order known ranks done = (known ≤ 96) × Low ranks
 
 abbrev μ-loop : tie.MeasureT-loop
-μ-loop t count₀ order₀ known₀ ranks₀ done₀ count order known ranks done = 96 - done
+μ-loop n m a b boxes count₀ order₀ known₀ ranks₀ done₀ count order known ranks done = 96 - done
 
 pub guess-spec : {M : Type 1} → statement M
 guess-spec =
@@ -30,18 +30,9 @@ guess-spec =
     (λ c. search needs)
     (λ c. search needs)
     (λ c κs. search needs)
-    (λ c. search needs)
-    (λ c. search needs)
     (λ c κs. search needs)
     (λ c κs. search needs)
     (λ c κs. search needs)
-    (λ c. search needs)
-    (λ c. search needs)
-    (λ c κs. search needs)
-    (λ c κs. search needs)
-    (λ c κs. search needs)
-    (λ c. search needs)
-    (λ c. search needs)
     (λ c κs. search needs)
     (λ c κs. search needs)
     (λ c. search needs)

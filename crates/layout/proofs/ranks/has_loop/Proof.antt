@@ -1,16 +1,17 @@
 -- `ranks::has_loop`: the ranks stay within their bound, and their sum grows with each pass that raised one.
 use Prim.Native.Nat.{_-_}
 use borrow.Author.Needs.{needs}
+use Rattle.layout.specs.Ends.{ringOf}
 use Rattle.layout.specs.Ranks.{Reached, total}
 use Rattle.layout.proofs.Rising.{low-reached, rising-none, high-some, raised-less}
 use Rattle.layout.proofs.ranks.has_loop.Statement.{statement}
 use Rattle.layout.proofs.ranks.has_loop.Tie as tie
 
 abbrev Inv-loop : tie.InvT-loop
-Inv-loop t ranks₀ ranks = Reached t ranks
+Inv-loop n m a b ranks₀ ranks = Reached (ringOf n a b) ranks
 
 abbrev μ-loop : tie.MeasureT-loop
-μ-loop t ranks₀ ranks = 49152 - total ranks
+μ-loop n m a b ranks₀ ranks = 49152 - total ranks
 
 pub has-loop-spec : {M : Type 1} → statement M
 has-loop-spec =

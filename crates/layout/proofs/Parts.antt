@@ -1,0 +1,115 @@
+-- The conditions on the parts of a table, with the columns of its own segments, are the conditions of `rules`.
+use Prim.Native.Nat.{ℕ, zero, suc, _+_, _≤_}
+use mathlib.Core.Path.{_≡_, refl, sym, _∙_, ap}
+use mathlib.Core.Bool.{not}
+use mathlib.Core.List.{List, [], _∷_}
+use native.Mathlib.Decide.{ℕ-discrete}
+use native.Mathlib.Omega.{arith}
+use lib.ListN.{length}
+use Rattle.rules.specs.declared.Segment.{Segment}
+use Rattle.rules.specs.declared.Table.{Table}
+use Rattle.rules.specs.Rows.{first, nth, listOf}
+use Rattle.rules.specs.Track.{noSegment, segmentAt, planAt, trainPlanAt, endA, endB, farBox, nearBox, follows}
+use Rattle.rules.specs.Loop.{anyBefore, following, chainEnds, isEmpty, hasLoop}
+use Rattle.rules.specs.Network.{endsFault, hasEndA, hasEndB, listedFault, sideFault, boxFault, unlistedFault, headRows, networkRows}
+use Rattle.rules.specs.Placing.{routeFault, startFault, placingRows, conditionRows, tableCode}
+use Rattle.rules.proofs.Tests.{first-before}
+use Rattle.rules.proofs.Rows.{any-same, list-same, list-all}
+use Rattle.layout.specs.Ends.{column, farEnd, endsIn, ringOf, boxFaultOn, sharesStart}
+use Rattle.layout.specs.Parts.{endsFaultIn, planFaultIn, boxFaultIn, unlistedIn, shapeFaultIn, trainFaultIn, startFaultIn, networkRowsIn, placingRowsIn, partsCode}
+use Rattle.layout.proofs.Laws.{far-end, a-column, b-column}
+use Rattle.layout.proofs.Routes.{route-in}
+use Rattle.layout.proofs.Codes.{head-limits}
+
+-- Segments with the same ends are the same.
+same-ends : (a b x y : ℕ) → a ≡ x → b ≡ y → _≡_ {A = Segment} (record { a = a; b = b }) (record { a = x; b = y })
+same-ends a b x y e f = cc
+
+-- Code 9 looks only at how many segments there are and at which follows which.
+module _ (t u : Table) (number : u .n ≡ t .n) (same : (s x : ℕ) → follows u 0 s x ≡ follows t 0 s x) where
+  before-same : (l : List ℕ) (x : ℕ) → anyBefore u l x ≡ anyBefore t l x
+  unfolding anyBefore
+  before-same [] x = refl
+  before-same (s ∷ l) x = rw (same s x, before-same l x)
+
+  following-same : (before l : List ℕ) → following u before l ≡ following t before l
+  unfolding following
+  following-same before [] = refl
+  following-same before (x ∷ l) = rw (before-same before x, following-same before l)
+
+  chain-same : (r : ℕ) → chainEnds u r ≡ chainEnds t r
+  unfolding chainEnds
+  chain-same zero = rw number
+  chain-same (suc r) = rw (chain-same r) (following-same (chainEnds t r) (chainEnds t r))
+
+  loop-same : hasLoop u ≡ hasLoop t
+  unfolding hasLoop
+  loop-same = ap (λ (l : List ℕ). not (isEmpty l)) (chain-same (u .n) ∙ ap (chainEnds t) number)
+
+module _ (t : Table) (sized : length (t .segments) ≡ 96) where
+  -- The columns of A ends and of B ends.
+  abbrev a : List ℕ
+  a = column (farBox t 1)
+
+  abbrev b : List ℕ
+  b = column (farBox t 0)
+
+  -- Codes 6 and 8 at a segment and at a box.
+  ends-same : (s : ℕ) → endsFaultIn (t .m) a b s ≡ endsFault t s
+  unfolding endsFaultIn endsFault
+  ends-same s = rw (a-column t sized s, b-column t sized s)
+
+  box-same : (x : ℕ) → boxFaultIn (t .boxes) a b x ≡ boxFault t x
+  unfolding boxFaultIn boxFaultOn boxFault listedFault sideFault hasEndA hasEndB planAt
+  box-same x = simp (a-column t sized, b-column t sized)
+
+  unlisted-same : (s : ℕ) → unlistedIn (t .boxes) a b s ≡ unlistedFault t s
+  unfolding unlistedIn unlistedFault planAt
+  unlisted-same s = rw (a-column t sized s, b-column t sized s)
+
+  -- Code 9: the segments of `ringOf` are the table's own.
+  segments-same : listOf 96 (endsIn a b) ≡ t .segments
+  unfolding endA endB segmentAt
+  segments-same =
+      list-same (endsIn a b) (λ s. nth (t .segments) s noSegment) 96
+      (λ i l. same-ends _ _ _ _ (a-column t sized (i + 1)) (b-column t sized (i + 1)))
+      ∙ ap (λ (n : ℕ). listOf n (λ s. nth (t .segments) s noSegment)) (sym sized)
+      ∙ list-all (t .segments) noSegment
+
+  ring-same : hasLoop (ringOf (t .n) a b) ≡ hasLoop t
+  unfolding follows farBox nearBox endA endB segmentAt
+  ring-same = loop-same t (ringOf (t .n) a b) refl (λ s x. rw segments-same)
+
+  -- Code 11 at a train.
+  route-same : (i : ℕ) → 1 ≤ i → i ≤ 16 → trainFaultIn (t .n) (t .trains) (t .routes) a b i ≡ routeFault t (t .routes) i (trainPlanAt t i .direction) (trainPlanAt t i .length)
+  unfolding trainFaultIn trainPlanAt
+  route-same i l h = route-in t a b (t .routes) i _ _ sized refl refl l h
+
+  -- So the rows are the table's.
+  network-same : networkRowsIn (t .n) (t .m) (t .boxes) a b ≡ networkRows t
+  unfolding networkRowsIn networkRows planFaultIn planAt
+  network-same =
+      rw (
+        any-same (endsFaultIn (t .m) a b) (endsFault t) (t .n) (λ s l h. ends-same s),
+        any-same (boxFaultIn (t .boxes) a b) (boxFault t) (t .m) (λ x l h. box-same x),
+        any-same (unlistedIn (t .boxes) a b) (unlistedFault t) (t .n) (λ s l h. unlisted-same s),
+        ring-same,
+      )
+
+  placing-same : t .k ≤ 16 → placingRowsIn (t .n) (t .k) (t .trains) (t .routes) a b ≡ placingRows t
+  unfolding placingRowsIn placingRows shapeFaultIn startFaultIn startFault sharesStart trainPlanAt
+  placing-same few = rw (any-same (trainFaultIn (t .n) (t .trains) (t .routes) a b) _ (t .k) (λ i l h. route-same i l (omega arith)))
+
+  -- And so is the code. Where the head has a code, it does not matter what comes after.
+  pub parts-code : partsCode (t .version) (t .n) (t .m) (t .k) (t .boxes) (t .trains) (t .routes) (column (farBox t 1)) (column (farBox t 0)) ≡ tableCode t
+  unfolding partsCode tableCode conditionRows
+  parts-code =
+      elim (ℕ-discrete (first (headRows (t .version) (t .n) (t .m) (t .k))) 0) [
+        | yes e ↦ rw (network-same, placing-same (head-limits (t .version) (t .n) (t .m) (t .k) _ refl e .trainsHigh))
+        | no e ↦ sym (first-before _ _ e) ∙ first-before _ _ e
+      ]
+
+  -- What parts_code answers with columns that far_boxes made of the table's segments.
+  pub parts-answer : (r : ℕ) (x y : List ℕ) → x ≡ column (farEnd (t .segments) 1) → y ≡ column (farEnd (t .segments) 0)
+      → r ≡ partsCode (t .version) (t .n) (t .m) (t .k) (t .boxes) (t .trains) (t .routes) x y → r ≡ tableCode t
+  parts-answer r x y e f g = rw (e, f, far-end t 1, far-end t 0) at g ∙ parts-code

@@ -1,62 +1,49 @@
 -- What code 27 says of a line, in the words of the functions that test it.
-use Prim.Native.Nat.{ℕ, _+_, _≤_, _<_}
-use mathlib.Core.Path.{_≡_, refl, sym, _∙_}
-use mathlib.Core.Logic.{_≢_}
+use Prim.Native.Nat.{ℕ, _+_, _≤_}
+use mathlib.Core.Path.{_≡_, refl}
 use mathlib.Core.Bool.{Bool, true, false, not, _||_}
 use mathlib.Core.List.{List}
-use native.Mathlib.Numerals.{add-one}
+use native.Mathlib.Decide.{ℕ-discrete}
 use native.Mathlib.Omega.{arith}
-use borrow.Author.Tests.{ne-eqb}
+use borrow.Author.Tests.{ne-eqb, le-ltb}
 use lib.Dec.{eqb}
 use lib.ListN.{length, getD}
 use Rattle.rules.specs.declared.Request.{Request}
 use Rattle.rules.specs.declared.Request.the-variants.{Reserve, Lock}
 use Rattle.rules.specs.declared.Message.{Message}
 use Rattle.rules.specs.declared.Message.the-variants.{Idle, Sent, Answered}
+use Rattle.rules.specs.declared.BoxPlan.{BoxPlan}
+use Rattle.rules.specs.declared.SwitchBox.{SwitchBox}
 use Rattle.rules.specs.declared.Train.{Train}
 use Rattle.rules.specs.declared.Around.{Around}
-use Rattle.rules.specs.declared.Table.{Table}
 use Rattle.rules.specs.declared.Line.{Line}
-use Rattle.rules.specs.Rows.{first, anyOf, nth}
+use Rattle.rules.specs.Rows.{first, nth}
 use Rattle.rules.specs.Track.{noBoxPlan, planAt, farBox}
 use Rattle.rules.specs.Placing.{routeShapeFault, tableCode}
 use Rattle.rules.specs.Line.{noTrain, noBox, around, trainAt, boxAt}
 use Rattle.rules.specs.Steps.{addressRows}
 use Rattle.rules.specs.Record.{answerCode, messageFault, trainFault, switchBoxFault, recordFault}
 use Rattle.rules.proofs.Tests.{tests, is-true, or-left, or-last, not-same, answered}
-use Rattle.rules.proofs.Rows.{nth-at}
-use Rattle.rules.proofs.Accepted.{Limits, accepted}
+use Rattle.rules.proofs.Rows.{nth-at, any-same}
+use Rattle.rules.proofs.Accepted.{accepted}
 use Rattle.layout.specs.Ends.{column, routeFaultIn}
 use Rattle.layout.proofs.Routes.{route-in}
 use Rattle.deciding.specs.Sight.{kindOf, aroundIn}
 use Rattle.deciding.proofs.Around.{around-in}
-use Rattle.checking.specs.Faults.{trainFaultIn, boxFaultWith}
+use Rattle.checking.specs.Faults.{trainFaultIn, trainsFault, boxFaultWith, boxesFault}
 
--- The train and the box at index i are those of number i + 1; r is what a function answered for it, and v what a branch found.
-pub train-answer : (l : Line) (i : ℕ) (a b kinds : List ℕ) (r v : Bool)
-    → length (l .table .segments) ≡ 96
-    → length (l .table .boxes) ≡ 96
-    → a ≡ column (farBox (l .table) 1)
-    → b ≡ column (farBox (l .table) 0)
-    → kinds ≡ column (kindOf (l .table .boxes))
-    → i < 16
-    → r ≡ trainFaultIn (l .table .n) a b kinds (l .routes) (i + 1) (getD (l .trains) i noTrain)
-    → r ≡ v
-    → trainFault l (i + 1) ≡ v
-unfolding trainFaultIn trainFault around trainAt
-train-answer l i a b kinds r v sized boxed ends-a ends-b of-kinds h e f =
-    let t = l .table in
-    let x = getD (l .trains) i noTrain in
-    let route = route-in t (column (farBox t 1)) (column (farBox t 0)) (l .routes) (i + 1) (x .direction) (x .length) sized refl refl (omega arith) (omega arith) in
-    let seen = around-in t (l .routes) (i + 1) x sized boxed in
-    rw nth-at (rw (ends-a, ends-b, of-kinds, route, seen) at (sym e ∙ f))
+-- The train and the box at index i are those of number i + 1; z is what a function answered for it, and v what a branch found.
+pub train-answer : (n : ℕ) (a b kinds routes : List ℕ) (trains : List Train) (i : ℕ) (z v : Bool)
+    → z ≡ trainFaultIn n a b kinds routes (i + 1) (getD trains i noTrain)
+    → z ≡ v
+    → trainFaultIn n a b kinds routes (i + 1) (nth trains (i + 1) noTrain) ≡ v
+train-answer n a b kinds routes trains i z v e f = rw nth-at (answered _ _ _ e f)
 
-pub box-answer : (l : Line) (i : ℕ) (r v : Bool)
-    → r ≡ boxFaultWith (l .table .k) (getD (l .table .boxes) i noBoxPlan) (getD (l .boxes) i noBox)
-    → r ≡ v
-    → switchBoxFault l (i + 1) ≡ v
-unfolding boxFaultWith switchBoxFault planAt boxAt nth
-box-answer l i r v e f = rw add-one (sym e ∙ f)
+pub box-answer : (k : ℕ) (plans : List BoxPlan) (boxes : List SwitchBox) (i : ℕ) (z v : Bool)
+    → z ≡ boxFaultWith k (getD plans i noBoxPlan) (getD boxes i noBox)
+    → z ≡ v
+    → boxFaultWith k (nth plans (i + 1) noBoxPlan) (nth boxes (i + 1) noBox) ≡ v
+box-answer k plans boxes i z v e f = rw (nth-at plans, nth-at boxes) (answered _ _ _ e f)
 
 -- Codes of an answer: 0, those of a reservation, those of a lock.
 pub answer-zero : (q : Request) (c : ℕ) → c ≡ 0 → true ≡ answerCode q c
@@ -124,30 +111,31 @@ module _ (n : ℕ) (a b kinds routes : List ℕ) (i : ℕ) (r : Train) where
       let follows : routeFaultIn n a b routes i (r .direction) (r .length) ≡ false = answered _ _ _ g h in
       search tests depth 12
 
--- A table that is refused, a train at fault, and what the boxes say where there is neither; c is the table's code, and q and z are
--- what functions answered.
-module _ (l : Line) where
-  pub faulty-table : (c : ℕ) → c ≡ tableCode (l .table) → (c ≡ 0 → ⊥) → true ≡ recordFault l
-  unfolding recordFault
-  faulty-table c e n = let refused : tableCode (l .table) ≢ 0 = λ z. n (e ∙ z) in search tests
+-- Code 27 at a train and at a box of a line. The columns are those of its table.
+module _ (l : Line) (a b kinds : List ℕ) (ends-a : a ≡ column (farBox (l .table) 1)) (ends-b : b ≡ column (farBox (l .table) 0)) (of-kinds : kinds ≡ column (kindOf (l .table .boxes))) (sized : length (l .table .segments) ≡ 96) (boxed : length (l .table .boxes) ≡ 96) where
+  train-in : (i : ℕ) → 1 ≤ i → i ≤ 16
+      → trainFault l i ≡ trainFaultIn (l .table .n) a b kinds (l .routes) i (nth (l .trains) i noTrain)
+  unfolding trainFaultIn trainFault around trainAt
+  train-in i low high =
+      let t = l .table in
+      let r = nth (l .trains) i noTrain in
+      rw (ends-a, ends-b, of-kinds, route-in t _ _ (l .routes) i (r .direction) (r .length) sized refl refl low high, around-in t (l .routes) i r sized boxed)
 
-  pub faulty-train : (q : Bool) → q ≡ anyOf (l .table .k) (trainFault l) → q ≡ true → true ≡ recordFault l
-  unfolding recordFault
-  faulty-train q e f = let found : anyOf (l .table .k) (trainFault l) ≡ true = answered _ _ _ e f in search tests
+  box-with : (i : ℕ) → switchBoxFault l i ≡ boxFaultWith (l .table .k) (nth (l .table .boxes) i noBoxPlan) (nth (l .boxes) i noBox)
+  unfolding boxFaultWith switchBoxFault planAt boxAt
+  box-with i = refl
 
-  pub last-boxes : (c : ℕ) (q z : Bool)
-      → c ≡ tableCode (l .table)
-      → c ≡ 0
-      → q ≡ anyOf (l .table .k) (trainFault l)
-      → q ≡ false
-      → z ≡ anyOf (l .table .m) (switchBoxFault l)
-      → z ≡ recordFault l
-  unfolding recordFault
-  last-boxes c q z e n f g last =
-      let whole : tableCode (l .table) ≡ 0 = sym e ∙ n in
-      let none : anyOf (l .table .k) (trainFault l) ≡ false = answered _ _ _ f g in
-      search tests
-
--- The limits of a table whose code is 0.
-pub within-limits : (t : Table) (c : ℕ) → c ≡ tableCode t → c ≡ 0 → Limits (t .n) (t .m) (t .k)
-within-limits t c e n = accepted t (sym e ∙ n) .limits
+  -- Code 27 of a line: its table is refused, or it is at fault at its trains or at its boxes.
+  pub record-fault
+      : recordFault l
+      ≡ (not (eqb (tableCode (l .table)) 0)
+      || trainsFault (l .table .n) (l .table .k) (l .trains) (l .routes) a b kinds
+      || boxesFault (l .table .k) (l .table .m) (l .table .boxes) (l .boxes))
+  unfolding recordFault trainsFault boxesFault
+  record-fault =
+      elim (ℕ-discrete (tableCode (l .table)) 0) [
+        | yes e ↦
+            let limits = accepted (l .table) e .limits in
+            rw (le-ltb _ _ (limits .trainsHigh), le-ltb _ _ (limits .boxesHigh), any-same _ _ (l .table .k) (λ i low high. train-in i low (omega (arith, limits .trainsHigh))), any-same _ _ (l .table .m) (λ i low high. box-with i))
+        | no e ↦ rw (ne-eqb _ _ e)
+      ]

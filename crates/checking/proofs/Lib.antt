@@ -1,2 +1,2 @@
--- What code 27 says of the train and of the box at an index, and of the whole record.
+-- Code 27 at the train and at the box at an index, and of the whole record.
 pub mod Laws

@@ -1,2 +1,2 @@
--- What the inner functions of this crate compute; the public one is stated by the definition of `rules`.
+-- What the functions of this crate compute: code 27 by parts.
 pub mod Faults

@@ -1,12 +1,8 @@
 // Code 27 at the boxes of a line.
 use rules::BoxPlan;
-use rules::Line;
 use rules::SwitchBox;
 ghost use mathlib.Core.Path.{_≡_};
-ghost use Prim.Native.Nat.{_≤_};
-ghost use Rattle.rules.specs.Rows.{anyOf};
-ghost use Rattle.rules.specs.Record.{switchBoxFault};
-ghost use Rattle.checking.specs.Faults.{boxFaultWith};
+ghost use Rattle.checking.specs.Faults.{boxFaultWith, boxesFault};
 
 // Code 27 at a box with this plan, on a line with k trains.
 fn box_faulty(k: u8, p: BoxPlan, x: SwitchBox) -> bool
@@ -27,18 +23,20 @@ fn box_faulty(k: u8, p: BoxPlan, x: SwitchBox) -> bool
     x.right > k
 }
 
-// Code 27: some box of the line is at fault.
-pub(crate) fn some_box_faulty(line: Line) -> bool
-    requires { ⌜ line .table .m ≤ 96 ⌝ }
-    ensures { λ r. ⌜ r ≡ anyOf (line .table .m) (switchBoxFault line) ⌝ }
+// Code 27 at boxes 1 to m, by their plans and records, on a line with k trains: there is no room for m boxes, or one of them is
+// at fault.
+pub fn some_box_faulty(k: u8, m: u8, plans: [BoxPlan; 96], boxes: [SwitchBox; 96]) -> bool
+    ensures { λ r. ⌜ r ≡ boxesFault k m plans boxes ⌝ }
 {
-    let table = line.table;
-    let k = table.k;
-    let m = table.m as usize;
+    if m > 96 {
+        return true;
+    }
+    let m = m as usize;
     let mut i: usize = 0;
-    while i < m {
-        let p = table.boxes[i];
-        let x = line.boxes[i];
+    // Box i + 1 is looked at, up to the last.
+    while i + 1 <= m {
+        let p = plans[i];
+        let x = boxes[i];
         if box_faulty(k, p, x) {
             return true;
         }

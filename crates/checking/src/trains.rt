@@ -2,21 +2,17 @@
 use deciding::requests;
 use deciding::sight;
 use layout::placing;
-use rules::Line;
 use rules::Message;
 use rules::Request;
 use rules::Train;
 ghost use mathlib.Core.Path.{_≡_};
 ghost use mathlib.Core.Bool.{not, _||_};
-ghost use Prim.Native.Nat.{_≤_};
 ghost use lib.Dec.{eqb};
-ghost use Rattle.rules.specs.Rows.{anyOf, first};
-ghost use Rattle.rules.specs.Track.{farBox};
+ghost use Rattle.rules.specs.Rows.{first};
 ghost use Rattle.rules.specs.Steps.{addressRows};
-ghost use Rattle.rules.specs.Record.{answerCode, messageFault, trainFault};
-ghost use Rattle.layout.specs.Ends.{column};
-ghost use Rattle.deciding.specs.Sight.{kindOf, aroundIn};
-ghost use Rattle.checking.specs.Faults.{trainFaultIn};
+ghost use Rattle.rules.specs.Record.{answerCode, messageFault};
+ghost use Rattle.deciding.specs.Sight.{aroundIn};
+ghost use Rattle.checking.specs.Faults.{trainFaultIn, trainsFault};
 
 // A code that a box can give in answer to a lock request, other than 0.
 fn lock_answer(code: u8) -> bool
@@ -121,22 +117,28 @@ fn train_faulty(
     message_faulty(number, r, routes, a, b, kinds)
 }
 
-// Code 27: some train of the line is at fault.
-pub(crate) fn some_train_faulty(line: Line, a: &[u8; 256], b: &[u8; 256], kinds: &[u8; 256]) -> bool
-    requires { ⌜ line .table .k ≤ 16 ⌝ }
-    requires { ⌜ now a ≡ column (farBox (line .table) 1) ⌝ }
-    requires { ⌜ now b ≡ column (farBox (line .table) 0) ⌝ }
-    requires { ⌜ now kinds ≡ column (kindOf (line .table .boxes)) ⌝ }
-    ensures { λ r. ⌜ r ≡ anyOf (line .table .k) (trainFault line) ⌝ }
+// Code 27 at trains 1 to k, by their records, the routes as they stand and the columns of `train_faulty`: there is no room for k
+// trains, or one of them is at fault. There are n segments.
+pub fn some_train_faulty(
+    n: u8,
+    k: u8,
+    trains: [Train; 16],
+    routes: &[u8; 1024],
+    a: &[u8; 256],
+    b: &[u8; 256],
+    kinds: &[u8; 256],
+) -> bool
+    ensures { λ x. ⌜ x ≡ trainsFault n k trains (now (routes .entry)) (now (a .entry)) (now (b .entry)) (now (kinds .entry)) ⌝ }
 {
-    let n = line.table.n;
-    let k = line.table.k;
+    if k > 16 {
+        return true;
+    }
     let mut number: u8 = 0;
     while number < k {
         let i = number as usize;
         number += 1;
-        let r = line.trains[i];
-        if train_faulty(number, r, n, &line.routes, a, b, kinds) {
+        let r = trains[i];
+        if train_faulty(number, r, n, routes, a, b, kinds) {
             return true;
         }
     }

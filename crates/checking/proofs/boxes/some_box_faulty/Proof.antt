@@ -2,42 +2,52 @@
 use Prim.Native.Nat.{_-_}
 use native.Mathlib.Omega.{arith}
 use borrow.Author.Needs.{needs}
+use borrow.Author.Tests.{lt-ltb, le-ltb}
+use Rattle.rules.specs.Rows.{nth}
+use Rattle.rules.specs.Track.{noBoxPlan}
+use Rattle.rules.specs.Line.{noBox}
+use Rattle.rules.proofs.Tests.{is-true, or-left, or-last}
 use Rattle.rules.proofs.Rows.{NoneYet, none-start, none-turn, none-found, none-done}
-use Rattle.rules.specs.Record.{switchBoxFault}
+use Rattle.checking.specs.Faults.{boxFaultWith, boxesFault}
 use Rattle.checking.proofs.Laws.{box-answer}
 use Rattle.checking.proofs.boxes.some_box_faulty.Statement.{statement}
 use Rattle.checking.proofs.boxes.some_box_faulty.Tie as tie
 
 abbrev Inv-loop : tie.InvT-loop
-Inv-loop line table k m i₀ i = NoneYet m (switchBoxFault line) i
+Inv-loop k m plans boxes m' i₀ i = NoneYet m (λ b. boxFaultWith k (nth plans b noBoxPlan) (nth boxes b noBox)) i
 
 abbrev μ-loop : tie.MeasureT-loop
-μ-loop line table k m i₀ i = m - i
+μ-loop k m plans boxes m' i₀ i = m - i
 
-cast-m : tie.Need-cast-m Inv-loop μ-loop
-cast-m c = omega arith
+returns : tie.Need-returns Inv-loop μ-loop
+unfolding boxesFault
+returns c = is-true _ (or-left _ _ (lt-ltb _ _ (c .if1 .taken)))
 
 loop-holds : tie.Need-loop-holds Inv-loop μ-loop
 loop-holds c = none-start _ _
 
+add-loop : tie.Need-add-loop Inv-loop μ-loop
+add-loop c = omega arith
+
 mul-p : tie.Need-mul-p Inv-loop μ-loop
 mul-p c = omega arith
 
-element-copy-out-p : tie.Need-element-copy-out-p Inv-loop μ-loop
-element-copy-out-p c = omega arith
+array-copy-out-p : tie.Need-array-copy-out-p Inv-loop μ-loop
+array-copy-out-p c = omega arith
 
 mul-x : tie.Need-mul-x Inv-loop μ-loop
 mul-x c = omega arith
 
-element-copy-out-x : tie.Need-element-copy-out-x Inv-loop μ-loop
-element-copy-out-x c = omega arith
+array-copy-out-x : tie.Need-array-copy-out-x Inv-loop μ-loop
+array-copy-out-x c = omega arith
 
 box-faulty-requires : tie.Need-box-faulty-requires Inv-loop μ-loop
 box-faulty-requires c κs = search needs
 
-returns : tie.Need-returns Inv-loop μ-loop
-returns c =
-    none-found _ _ _ (c .before .before .before .before .loop-test .taken) (box-answer _ _ _ _ (c .before .box-faulty .ensures) (c .if1 .taken))
+returns-2 : tie.Need-returns-2 Inv-loop μ-loop
+unfolding boxesFault
+returns-2 c =
+    or-last _ _ _ (le-ltb _ _ (c .before .before .before .before .before .before .if1 .left)) (none-found _ _ (c .before .before .before .before .before .loop .i) (omega arith) (box-answer _ _ _ _ _ _ (c .before .box-faulty .ensures) (c .if2 .taken)))
 
 add-i : tie.Need-add-i Inv-loop μ-loop
 add-i c = omega arith
@@ -47,10 +57,11 @@ loop-less c = omega arith
 
 loop-again : tie.Need-loop-again Inv-loop μ-loop
 loop-again c =
-    none-turn _ _ _ (c .before .before .before .before .before .loop .inv) (c .before .before .before .before .loop-test .taken) (box-answer _ _ _ _ (c .before .box-faulty .ensures) (c .if1 .left))
+    none-turn _ _ (c .before .before .before .before .before .loop .i) (c .before .before .before .before .before .loop .inv) (omega arith) (box-answer _ _ _ _ _ _ (c .before .box-faulty .ensures) (c .if2 .left))
 
-returns-2 : tie.Need-returns-2 Inv-loop μ-loop
-returns-2 c = none-done _ _ _ (c .before .loop .inv) (c .loop-test .left)
+returns-3 : tie.Need-returns-3 Inv-loop μ-loop
+unfolding boxesFault
+returns-3 c = or-last _ _ _ (le-ltb _ _ (c .before .before .if1 .left)) (none-done _ _ (c .before .loop .i) (c .before .loop .inv) (omega arith))
 
 pub some-box-faulty-spec : {M : Type 1} → statement M
 some-box-faulty-spec =
@@ -58,15 +69,16 @@ some-box-faulty-spec =
     (tie.spec
     Inv-loop
     μ-loop
-    cast-m
-    loop-holds
-    mul-p
-    element-copy-out-p
-    mul-x
-    element-copy-out-x
-    box-faulty-requires
     returns
+    loop-holds
+    add-loop
+    mul-p
+    array-copy-out-p
+    mul-x
+    array-copy-out-x
+    box-faulty-requires
+    returns-2
     add-i
     loop-less
     loop-again
-    returns-2)
+    returns-3)

@@ -1,65 +1,61 @@
 -- The loop has found nothing among the trains before.
-use Prim.Native.Nat.{_+_, _-_}
-use mathlib.Core.Path.{_≡_}
-use mathlib.Core.Bool.{Bool}
+use Prim.Native.Nat.{_-_}
 use native.Mathlib.Omega.{arith}
 use borrow.Author.Needs.{needs}
-use lib.ListN.{length}
-use Rattle.rules.proofs.Rows.{NoneYet, none-start, none-turn, none-found, none-done, length-mapped}
-use Rattle.rules.specs.Record.{trainFault}
+use borrow.Author.Tests.{lt-ltb, le-ltb}
+use Rattle.rules.specs.Rows.{nth}
+use Rattle.rules.specs.Line.{noTrain}
+use Rattle.rules.proofs.Tests.{is-true, or-left, or-last}
+use Rattle.rules.proofs.Rows.{NoneYet, none-start, none-turn, none-found, none-done}
+use Rattle.checking.specs.Faults.{trainFaultIn, trainsFault}
 use Rattle.checking.proofs.Laws.{train-answer}
 use Rattle.checking.proofs.trains.some_train_faulty.Statement.{statement}
 use Rattle.checking.proofs.trains.some_train_faulty.Tie as tie
 
 abbrev Inv-loop : tie.InvT-loop
-Inv-loop a b kinds line n k number₀ number = NoneYet k (trainFault line) number
+Inv-loop n k routes a b kinds trains number₀ number =
+    NoneYet k (λ i. trainFaultIn n a b kinds routes i (nth trains i noTrain)) number
 
 abbrev μ-loop : tie.MeasureT-loop
-μ-loop a b kinds line n k number₀ number = k - number
+μ-loop n k routes a b kinds trains number₀ number = k - number
+
+returns : tie.Need-returns Inv-loop μ-loop
+unfolding trainsFault
+returns c = is-true _ (or-left _ _ (lt-ltb _ _ (c .if1 .taken)))
 
 loop-holds : tie.Need-loop-holds Inv-loop μ-loop
 loop-holds c = none-start _ _
 
 cast-i : tie.Need-cast-i Inv-loop μ-loop
-cast-i c = omega (arith, c .before .before .pre)
+cast-i c = omega arith
 
 add-number : tie.Need-add-number Inv-loop μ-loop
-add-number c = omega (arith, c .before .before .pre)
+add-number c = omega arith
 
 mul-r : tie.Need-mul-r Inv-loop μ-loop
-mul-r c = omega (arith, c .before .before .pre)
+mul-r c = omega arith
 
-element-copy-out-r : tie.Need-element-copy-out-r Inv-loop μ-loop
-element-copy-out-r c = omega (arith, c .before .before .pre)
+array-copy-out-r : tie.Need-array-copy-out-r Inv-loop μ-loop
+array-copy-out-r c = omega arith
 
 train-faulty-requires : tie.Need-train-faulty-requires Inv-loop μ-loop
 train-faulty-requires c κs = search needs
 
--- The lengths of the table's arrays.
-segments-sized : (c : tie.Start Inv-loop μ-loop) → length (c .args .t1 .table .segments) ≡ 96
-segments-sized c = search (needs, length-mapped, c .good .0 .1 .1 .0)
-
-boxes-sized : (c : tie.Start Inv-loop μ-loop) → length (c .args .t1 .table .boxes) ≡ 96
-boxes-sized c = search (needs, length-mapped, c .good .0 .1 .1 .0)
-
--- What the call says of the train with this index.
-found : (c : tie.After-train-faulty Inv-loop μ-loop) (v : Bool) → c .train-faulty .result ≡ v → trainFault (c .before .before .before .before .before .before .args .t1) (c .before .before .before .before .before .loop .number + 1) ≡ v
-found c v e =
-    let s = c .before .before .before .before .before .before in
-    train-answer _ _ _ _ _ _ _ (segments-sized s) (boxes-sized s) (s .pre .1 .0) (s .pre .1 .1 .0) (s .pre .1 .1 .1) (omega (arith, s .pre)) (c .train-faulty .ensures) e
-
-returns : tie.Need-returns Inv-loop μ-loop
-returns c = none-found _ _ _ (c .before .before .before .before .before .loop-test .taken) (found (c .before) _ (c .if1 .taken))
+returns-2 : tie.Need-returns-2 Inv-loop μ-loop
+unfolding trainsFault
+returns-2 c =
+    or-last _ _ _ (le-ltb _ _ (c .before .before .before .before .before .if1 .left)) (none-found _ _ _ (c .before .before .before .loop-test .taken) (train-answer _ _ _ _ _ _ _ _ _ (c .before .train-faulty .ensures) (c .if2 .taken)))
 
 loop-less : tie.Need-loop-less Inv-loop μ-loop
 loop-less c = omega arith
 
 loop-again : tie.Need-loop-again Inv-loop μ-loop
 loop-again c =
-    none-turn _ _ _ (c .before .before .before .before .before .before .loop .inv) (c .before .before .before .before .before .loop-test .taken) (found (c .before) _ (c .if1 .left))
+    none-turn _ _ _ (c .before .before .before .before .loop .inv) (c .before .before .before .loop-test .taken) (train-answer _ _ _ _ _ _ _ _ _ (c .before .train-faulty .ensures) (c .if2 .left))
 
-returns-2 : tie.Need-returns-2 Inv-loop μ-loop
-returns-2 c = none-done _ _ _ (c .before .loop .inv) (c .loop-test .left)
+returns-3 : tie.Need-returns-3 Inv-loop μ-loop
+unfolding trainsFault
+returns-3 c = or-last _ _ _ (le-ltb _ _ (c .before .before .if1 .left)) (none-done _ _ _ (c .before .loop .inv) (c .loop-test .left))
 
 pub some-train-faulty-spec : {M : Type 1} → statement M
 some-train-faulty-spec =
@@ -67,13 +63,14 @@ some-train-faulty-spec =
     (tie.spec
     Inv-loop
     μ-loop
+    returns
     loop-holds
     cast-i
     add-number
     mul-r
-    element-copy-out-r
+    array-copy-out-r
     train-faulty-requires
-    returns
+    returns-2
     loop-less
     loop-again
-    returns-2)
+    returns-3)

@@ -1,23 +1,21 @@
--- The ends of a run: a refused file, a buffer that is too short, and all steps taken; and those of a single step.
+-- The ends of a run: a refused file, a buffer that is too short, and all steps taken.
 use Prim.Native.Nat.{ℕ, _≤_, _<_}
 use mathlib.Core.Path.{_≡_, refl, sym, _∙_, ap}
-use mathlib.Core.Bool.{true, false}
-use mathlib.Core.List.{List, [], _∷_, _++_}
+use mathlib.Core.List.{List, _++_}
 use native.Mathlib.Decide.{ℕ-discrete}
 use native.Mathlib.Omega.{arith}
 use borrow.Author.Tests.{lt-ltb, le-ltb, ne-eqb}
-use lib.ListN.{length, getD, drop}
+use lib.ListN.{length, drop}
 use Rattle.rules.specs.declared.Line.{Line}
 use Rattle.rules.specs.declared.Outcome.{Outcome}
 use Rattle.rules.specs.Rows.{first}
 use Rattle.rules.specs.File.{fileCode, decode}
 use Rattle.rules.specs.Line.{startLine, emptyLine, read}
-use Rattle.rules.specs.Steps.{Step, step}
-use Rattle.rules.specs.Record.{recordFault, checkedStep}
-use Rattle.rules.specs.History.{lineAfter, events}
-use Rattle.rules.specs.Run.{wholeSteps, stepCount, answersOf, answersFrom, runCode, run, answered, SafeRun}
+use Rattle.rules.specs.Steps.{step}
+use Rattle.rules.specs.Record.{checkedStep}
+use Rattle.rules.specs.History.{lineAfter}
+use Rattle.rules.specs.Run.{wholeSteps, stepCount, answersFrom, runCode, run, answered, SafeRun}
 use Rattle.rules.proofs.Files.{file-iff}
-use Rattle.rules.proofs.Sound.{sound-iff}
 use Rattle.rules.proofs.Runs.{checked-run, checked-answers, safe-run}
 
 -- What the reader gives: the start line of an accepted file, and the empty record for a refused one.
@@ -103,18 +101,3 @@ counted file o is zero =
     let code : fileCode file ≡ 0 = accepted-file file o is zero in
     let k : o .line .table .k ≡ decode file .k = ap (λ (x : Outcome). x .line .table .k) (is ∙ read-accepted file code) in
     rw k (file-iff file .0 code .table .limits .trainsHigh)
-
--- A single step: refused with 27 where the record check finds something, else the one step of its three bytes.
-pub step-refused : (l : Line) (s : Step) → recordFault l ≡ true → record { code = 27; line = l } ≡ checkedStep l s
-unfolding checkedStep
-step-refused l s e = rw e refl
-
-pub sound-trains : (l : Line) → recordFault l ≡ false → l .table .k ≤ 16
-sound-trains l e = sound-iff l .0 e .table .limits .trainsHigh
-
-pub step-taken : (l : Line) (kind train box : ℕ) → recordFault l ≡ false → (after : Line) (answer before : List ℕ)
-    → after ≡ lineAfter step l (wholeSteps (kind ∷ train ∷ box ∷ []))
-    → answer ≡ answersFrom step l (kind ∷ train ∷ box ∷ []) ++ drop (stepCount (kind ∷ train ∷ box ∷ [])) before
-    → record { code = getD answer 0 0; line = after } ≡ checkedStep l (record { kind = kind; train = train; box = box })
-unfolding checkedStep lineAfter wholeSteps answersFrom answersOf events
-step-taken l kind train box e after answer before after-is answer-is = rw (e, after-is, answer-is) refl

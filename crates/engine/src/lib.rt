@@ -1,6 +1,9 @@
 // The line engine: a single step on any line record, and a run of a table file and all its steps.
 pub mod steps;
 
+use deciding::Decided;
+use deciding::sight;
+use layout::network;
 use rules::Line;
 use rules::Outcome;
 ghost use mathlib.Core.Path.{_≡_};
@@ -27,25 +30,84 @@ pub fn run(file: &[u8], steps: &[u8], answers: &mut [u8]) -> Outcome
         };
     }
     let line = start.line;
+    let segments = line.table.segments;
+    let plans = line.table.boxes;
+    let a = network::far_boxes(segments, 1);
+    let b = network::far_boxes(segments, 0);
+    let kinds = sight::kinds(plans);
     Outcome {
         code: 0,
-        line: steps::advance(line, steps, answers),
+        line: steps::advance(line, steps, answers, &a, &b, &kinds),
     }
 }
 
 // A single step on any line record: 27 first, then 13, 14 and the rows of the step's kind. With 13 to 21 and 27 the line is as it
-// was.
-pub fn step(line: Line, kind: u8, train: u8, number: u8) -> Outcome
+// was. It does what a turn of `steps::advance` does, on its own copy of the line.
+pub fn step(mut line: Line, kind: u8, train: u8, number: u8) -> Outcome
     ensures { λ r. ⌜ r ≡ checkedStep line (record { kind = kind; train = train; box = number }) ⌝ }
 {
-    if checking::record_faulty(line) {
+    let n = line.table.n;
+    let m = line.table.m;
+    let k = line.table.k;
+    let segments = line.table.segments;
+    let plans = line.table.boxes;
+    let starts = line.table.trains;
+    let a = network::far_boxes(segments, 1);
+    let b = network::far_boxes(segments, 0);
+    let kinds = sight::kinds(plans);
+    if layout::parts_code(
+        line.table.version,
+        n,
+        m,
+        k,
+        plans,
+        starts,
+        &line.table.routes,
+        &a,
+        &b,
+    )
+        != 0
+    {
         return Outcome { code: 27, line };
     }
-    let bytes = [kind, train, number];
-    let mut answer = [0u8; 1];
-    let after = steps::advance(line, &bytes, &mut answer);
-    Outcome {
-        code: answer[0],
-        line: after,
+    let trains = line.trains;
+    if checking::trains::some_train_faulty(n, k, trains, &line.routes, &a, &b, &kinds) {
+        return Outcome { code: 27, line };
+    }
+    let boxes = line.boxes;
+    if checking::boxes::some_box_faulty(k, m, plans, boxes) {
+        return Outcome { code: 27, line };
+    }
+    let i = steps::train_index(train);
+    let r = trains[i];
+    let j = steps::box_index(deciding::concerned(kind, train, r, &line.routes, &a, &b, &kinds));
+    let mut p = steps::no_plan();
+    let mut x = steps::no_box();
+    if j < 96 {
+        p = plans[j];
+        x = boxes[j];
+    }
+    let d = deciding::decide(
+        kind,
+        number,
+        steps::known(train, k),
+        train,
+        r,
+        p,
+        x,
+        &line.routes,
+        &a,
+        &b,
+        &kinds,
+    );
+    match d {
+        Decided::Refused(code) => Outcome { code, line },
+        Decided::Changed(code, train_after, box_after) => {
+            line.trains[i] = train_after;
+            if j < 96 {
+                line.boxes[j] = box_after;
+            }
+            Outcome { code, line }
+        }
     }
 }

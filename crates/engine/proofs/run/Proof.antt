@@ -2,6 +2,7 @@
 use native.Mathlib.Omega.{arith}
 use borrow.Author.Needs.{needs}
 use Rattle.rules.specs.Run.{stepCount}
+use Rattle.engine.proofs.Turn.{columns-made}
 use Rattle.engine.proofs.Runs.{run-refused, run-short, run-done, counted}
 use Rattle.engine.proofs.run.Statement.{statement}
 use Rattle.engine.proofs.run.Tie as tie
@@ -24,20 +25,27 @@ returns-2 c =
 advance-requires : tie.Need-advance-requires
 unfolding stepCount
 advance-requires c κs =
-    let counts = c .before .before .before in
-    let read = counts .before .before .before in
-    (omega (arith, c .before .before .if2 .left, counts .count .ensures), counted _ _ (read .read .ensures) (counts .before .if1 .left))
+    let kinds = c .before .before .before .before in
+    let enough = kinds .before .before .before .before .before .before in
+    let counts = enough .before in
+    let read = counts .before .before .before in (
+      omega (arith, enough .if2 .left, counts .count .ensures),
+      (
+        counted _ _ (read .read .ensures) (counts .before .if1 .left),
+        columns-made _ (kinds .before .before .far-boxes .ensures) (kinds .before .far-boxes2 .ensures) (kinds .kinds .ensures),
+      ),
+    )
 
 returns-3 : tie.Need-returns-3
 unfolding stepCount
 returns-3 c =
     let taken = c .before .before in
-    let counts = taken .before .before .before .before in
+    let enough = taken .before .before .before .before .before .before .before .before .before .before .before in
+    let counts = enough .before in
     let read = counts .before .before .before in
     let args = read .before .before .before .before .args in
     run-done (args .file .now) (args .steps .now) (args .answers .now) _ (read .read .ensures) (counts .before .if1 .left)
-    (omega (arith, taken .before .before .before .if2 .left, counts .count .ensures)) _ _ (taken .advance .ensures .0)
-    (taken .advance .ensures .1)
+    (omega (arith, enough .if2 .left, counts .count .ensures)) _ _ (taken .advance .ensures .0) (taken .advance .ensures .1)
 
 pub run-spec : {M : Type 1} → statement M
 run-spec =
@@ -48,6 +56,9 @@ run-spec =
     (λ c κs. search needs)
     (λ c κs. search needs)
     returns-2
+    (λ c κs. search needs)
+    (λ c κs. search needs)
+    (λ c κs. search needs)
     advance-requires
     (λ c. search needs)
     returns-3)

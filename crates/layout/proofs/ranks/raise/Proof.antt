@@ -1,5 +1,6 @@
 -- `ranks::raise`: the invariant is the record `Passing`, and each way through a turn or out of the loop is a law of it.
 use Prim.Native.Nat.{_-_}
+use native.Mathlib.Omega.{arith}
 use borrow.Author.Needs.{needs}
 use Rattle.layout.specs.Ends.{ringOf}
 use Rattle.layout.proofs.Rising.{Passing, passing-start, passing-kept, passing-raised, passing-high, passed-raised, passed-rising}
@@ -11,6 +12,13 @@ Inv-loop n a b ranks₀ highest raised₀ s₀ ranks raised s = Passing (ringOf 
 
 abbrev μ-loop : tie.MeasureT-loop
 μ-loop n a b ranks₀ highest raised₀ s₀ ranks raised s = n - s
+
+raised-again : tie.Need-loop-again Inv-loop μ-loop
+raised-again c =
+    let p = c .before .before .before .before in
+    let q = p .before .before .before .before in
+    let s = q .before .before in
+    passing-raised _ (s .pre .0) (s .args .a .now) (s .args .b .now) _ _ _ _ (q .before .loop .inv) _ _ (p .before .before .index .ensures .0) (p .index2 .ensures .0) (q .loop-test .taken) (p .index2 .ensures .1) (omega arith) (c .if2 .left)
 
 pub raise-spec : {M : Type 1} → statement M
 raise-spec =
@@ -33,7 +41,7 @@ raise-spec =
     (λ c. search needs)
     (λ c. search needs)
     (λ c. search needs)
-    (λ c. search passing-raised)
+    raised-again
     (λ c. search needs)
     (λ c. search passing-kept)
     (λ c. search passed-raised)

@@ -1,37 +1,30 @@
--- A single step: 27 by the parts of the record that is handed in, then what is decided, put back.
+-- A single step: 27 by the parts of the record that is handed in, then the one step of the loop.
 use Prim.Native.Nat.{ℕ, _≤_}
-use mathlib.Core.Path.{_≡_, refl, sym, _∙_}
+use mathlib.Core.Path.{_≡_, refl, _∙_}
 use mathlib.Core.Bool.{Bool, true, false, not, _||_}
-use mathlib.Core.List.{List}
-use native.Mathlib.Omega.{arith}
+use mathlib.Core.List.{List, [], _∷_, _++_}
 use borrow.Author.Tests.{eq-eqb, ne-eqb}
 use lib.Dec.{eqb}
-use lib.ListN.{length, set}
-use lib.Seq.{set-out}
-use Rattle.rules.specs.declared.SwitchBox.{SwitchBox}
-use Rattle.rules.specs.declared.Train.{Train}
+use lib.ListN.{length, getD, drop}
 use Rattle.rules.specs.declared.Line.{Line}
 use Rattle.rules.specs.Steps.{Step, step}
 use Rattle.rules.specs.Placing.{tableCode}
 use Rattle.rules.specs.Record.{recordFault, checkedStep}
+use Rattle.rules.specs.History.{lineAfter, events}
+use Rattle.rules.specs.Run.{wholeSteps, stepCount, answersOf, answersFrom}
 use Rattle.rules.proofs.Tests.{or-left, or-right}
 use Rattle.rules.proofs.Sound.{sound-iff}
 use Rattle.layout.specs.Parts.{partsCode}
 use Rattle.layout.proofs.Parts.{parts-code}
-use Rattle.deciding.specs.declared.Decided.{Decided}
-use Rattle.deciding.specs.declared.Decided.the-variants.{Refused, Changed}
-use Rattle.deciding.proofs.Steps.{leaving, putAt}
 use Rattle.checking.specs.Faults.{trainsFault, boxesFault}
 use Rattle.checking.proofs.Laws.{record-fault}
-use Rattle.engine.specs.Columns.{Columns}
-use Rattle.engine.proofs.Turn.{Ready, Turned}
+use Rattle.engine.specs.Loop.{Columns}
 
 -- A line whose records have their places, with the columns of its table and the table's code.
 pub record Coded (l : Line) (a b kinds : List ℕ) (c : ℕ) : Type 0 where
   pub columns : Columns (l .table) a b kinds
   pub segments : length (l .table .segments) ≡ 96
   pub plans : length (l .table .boxes) ≡ 96
-  pub boxes : length (l .boxes) ≡ 96
   pub code
       : c
       ≡ partsCode (l .table .version) (l .table .n) (l .table .m) (l .table .k) (l .table .boxes) (l .table .trains) (l .table .routes) a b
@@ -75,32 +68,13 @@ module _ {l : Line} {a b kinds : List ℕ} {c : ℕ} (h : Passed l a b kinds c) 
   sound : recordFault l ≡ false
   sound = by-parts (h .coded) ∙ rw (eq-eqb c 0 (h .table), h .trains, h .boxes)
 
-  pub passed-ready : Ready l a b kinds
-  passed-ready =
-      let coded = h .coded in
-      record {
-        columns = coded .columns;
-        trains = sound-iff l .0 sound .table .limits .trainsHigh;
-        segments = coded .segments;
-        plans = coded .plans;
-        boxes = coded .boxes;
-      }
+  pub passed-trains : l .table .k ≤ 16
+  passed-trains = sound-iff l .0 sound .table .limits .trainsHigh
 
-  -- Then the step is the one that was decided: refused, or changed with a box or without.
-  module _ {s : Step} {i j : ℕ} {d : Decided} (t : Turned l s i j d) where
-    decided-is : putAt l i j d ≡ checkedStep l s
-    unfolding checkedStep
-    decided-is = sym (t .is) ∙ rw sound refl
-
-    pub single-refused : {x : ℕ} → d ≡ Refused x → record { code = x; line = l } ≡ checkedStep l s
-    single-refused e = rw e at decided-is
-
-    pub single-here : {x : ℕ} {r : Train} {y : SwitchBox} → d ≡ Changed x r y
-        → leaving l x (set (l .boxes) j y) (set (l .trains) i r) ≡ checkedStep l s
-    single-here e = rw e at decided-is
-
-    pub single-nowhere : {x : ℕ} {r : Train} {y : SwitchBox} → d ≡ Changed x r y → 96 ≤ j
-        → leaving l x (l .boxes) (set (l .trains) i r) ≡ checkedStep l s
-    single-nowhere {y = y} e past =
-        let size = h .coded .boxes in
-        rw (e, set-out (l .boxes) j y (omega arith)) at decided-is
+  -- Then the step is the one that the loop takes.
+  pub single-taken : (kind train box : ℕ) (after : Line) (answer before : List ℕ)
+      → after ≡ lineAfter step l (wholeSteps (kind ∷ train ∷ box ∷ []))
+      → answer ≡ answersFrom step l (kind ∷ train ∷ box ∷ []) ++ drop (stepCount (kind ∷ train ∷ box ∷ [])) before
+      → record { code = getD answer 0 0; line = after } ≡ checkedStep l (record { kind = kind; train = train; box = box })
+  unfolding checkedStep lineAfter wholeSteps answersFrom answersOf events
+  single-taken kind train box after answer before after-is answer-is = rw (sound, after-is, answer-is) refl

@@ -25,7 +25,7 @@ use Rattle.deciding.specs.Sight.{kindOf, aroundIn}
 use Rattle.deciding.specs.Decided.{concernedBox, decided}
 use Rattle.deciding.proofs.Around.{around-in}
 use Rattle.deciding.proofs.Steps.{leaving, putAt, step-decided}
-use Rattle.engine.specs.Columns.{Columns}
+use Rattle.engine.specs.Loop.{Columns}
 use Rattle.engine.proofs.Running.{Running, stepAt, running-turn, running-room}
 
 -- The columns as they are made.
@@ -46,10 +46,6 @@ ready-after : {l : Line} {a b kinds : List ℕ} → Ready l a b kinds → (i j :
 ready-after h i j (Refused c) = h
 ready-after {l} h i j (Changed c r x) =
     record { columns = h .columns; trains = h .trains; segments = h .segments; plans = h .plans; boxes = length-set (l .boxes) j x ∙ h .boxes }
-
-same-table : (l : Line) (i j : ℕ) (d : Decided) → putAt l i j d .line .table ≡ l .table
-same-table l i j (Refused c) = refl
-same-table l i j (Changed c r x) = refl
 
 -- What stands around a train, as looked up.
 around-is : {t : Table} {a b kinds : List ℕ} → Columns t a b kinds → length (t .segments) ≡ 96 → length (t .boxes) ≡ 96
@@ -83,38 +79,35 @@ module _ (l : Line) (s : Step) (a b kinds : List ℕ) (ready : Ready l a b kinds
 pub read-past : {A : Type 0} (l : List A) (j : ℕ) (d x : A) → length l ≡ 96 → 96 ≤ j → x ≡ d → x ≡ getD l j d
 read-past l j d x size past e = e ∙ sym (List·getD-eq-default l d (omega arith))
 
--- What holds between two turns: the line has the table that was read before the first one, there is room for all answers, and n
--- steps are taken.
-pub record Between (table : Table) (a b kinds : List ℕ) (l₀ : Line) (bytes before : List ℕ) (l : Line) (answers : List ℕ) (n : ℕ) : Type 0 where
-  pub same : l .table ≡ table
+-- What holds between two turns: there is room for all answers, and n steps are taken.
+pub record Between (a b kinds : List ℕ) (l₀ : Line) (bytes before : List ℕ) (l : Line) (answers : List ℕ) (n : ℕ) : Type 0 where
   pub ready : Ready l a b kinds
   pub room : stepCount bytes ≤ length answers
   pub running : Running step l₀ bytes before l answers n
 
-module _ {table : Table} {a b kinds : List ℕ} {l₀ l : Line} {bytes before answers : List ℕ} {n i j : ℕ} {d : Decided}
-    (h : Between table a b kinds l₀ bytes before l answers n) (more : n < length bytes / 3) (t : Turned l (stepAt bytes n) i j d) where
+module _ {a b kinds : List ℕ} {l₀ l : Line} {bytes before answers : List ℕ} {n i j : ℕ} {d : Decided}
+    (h : Between a b kinds l₀ bytes before l answers n) (more : n < length bytes / 3) (t : Turned l (stepAt bytes n) i j d) where
   -- A turn whose code and line are what is put back.
   turn-to : (c : ℕ) (l′ : Line) → record { code = c; line = l′ } ≡ putAt l i j d
-      → Between table a b kinds l₀ bytes before l′ (set answers n c) (n + 1)
+      → Between a b kinds l₀ bytes before l′ (set answers n c) (n + 1)
   turn-to c l′ e =
       let line : l′ ≡ putAt l i j d .line = ap (λ (o : Outcome). o .line) e in
       record {
-        same = rw line (same-table l i j d ∙ h .same);
         ready = rw line (ready-after (h .ready) i j d);
         room = rw length-set (h .room);
         running = running-turn (h .running) more (running-room bytes answers (h .room) more) (t .is ∙ sym e);
       }
 
   -- A refused step, and a changed one with a box and without.
-  pub turn-refused : {c : ℕ} → d ≡ Refused c → Between table a b kinds l₀ bytes before l (set answers n c) (n + 1)
+  pub turn-refused : {c : ℕ} → d ≡ Refused c → Between a b kinds l₀ bytes before l (set answers n c) (n + 1)
   turn-refused e = turn-to _ _ (rw e refl)
 
   pub turn-here : {c : ℕ} {r : Train} {x : SwitchBox} → d ≡ Changed c r x
-      → Between table a b kinds l₀ bytes before (leaving l c (set (l .boxes) j x) (set (l .trains) i r) .line) (set answers n c) (n + 1)
+      → Between a b kinds l₀ bytes before (leaving l c (set (l .boxes) j x) (set (l .trains) i r) .line) (set answers n c) (n + 1)
   turn-here e = turn-to _ _ (rw e refl)
 
   pub turn-nowhere : {c : ℕ} {r : Train} {x : SwitchBox} → d ≡ Changed c r x → 96 ≤ j
-      → Between table a b kinds l₀ bytes before (leaving l c (l .boxes) (set (l .trains) i r) .line) (set answers n c) (n + 1)
+      → Between a b kinds l₀ bytes before (leaving l c (l .boxes) (set (l .trains) i r) .line) (set answers n c) (n + 1)
   turn-nowhere {x = x} e past =
       let size = h .ready .boxes in
       turn-to _ _ (rw (e, set-out (l .boxes) j x (omega arith)) refl)

@@ -1,7 +1,6 @@
 // The line engine: a single step on any line record, and a run of a table file and all its steps.
 pub mod steps;
 
-use deciding::Decided;
 use deciding::sight;
 use layout::network;
 use rules::Line;
@@ -29,40 +28,53 @@ pub fn run(file: &[u8], steps: &[u8], answers: &mut [u8]) -> Outcome
             line: reading::empty::line(),
         };
     }
-    let line = start.line;
-    let segments = line.table.segments;
-    let plans = line.table.boxes;
+    let mut line = start.line;
+    let table = line.table;
+    let segments = table.segments;
+    let plans = table.boxes;
     let a = network::far_boxes(segments, 1);
     let b = network::far_boxes(segments, 0);
     let kinds = sight::kinds(plans);
-    Outcome {
-        code: 0,
-        line: steps::advance(line, steps, answers, &a, &b, &kinds),
-    }
+    let boxes = line.boxes;
+    let trains = line.trains;
+    let moved = steps::advance(
+        table,
+        boxes,
+        trains,
+        &line.routes,
+        steps,
+        answers,
+        &a,
+        &b,
+        &kinds,
+    );
+    let boxes_after = moved.boxes;
+    let trains_after = moved.trains;
+    line.boxes = boxes_after;
+    line.trains = trains_after;
+    Outcome { code: 0, line }
 }
 
 // A single step on any line record: 27 first, then 13, 14 and the rows of the step's kind. With 13 to 21 and 27 the line is as it
-// was. It does what a turn of `steps::advance` does, on its own copy of the line.
+// was.
 pub fn step(mut line: Line, kind: u8, train: u8, number: u8) -> Outcome
     ensures { λ r. ⌜ r ≡ checkedStep line (record { kind = kind; train = train; box = number }) ⌝ }
 {
-    let n = line.table.n;
-    let m = line.table.m;
-    let k = line.table.k;
-    let segments = line.table.segments;
-    let plans = line.table.boxes;
-    let starts = line.table.trains;
+    let table = line.table;
+    let segments = table.segments;
+    let plans = table.boxes;
+    let starts = table.trains;
     let a = network::far_boxes(segments, 1);
     let b = network::far_boxes(segments, 0);
     let kinds = sight::kinds(plans);
     if layout::parts_code(
-        line.table.version,
-        n,
-        m,
-        k,
+        table.version,
+        table.n,
+        table.m,
+        table.k,
         plans,
         starts,
-        &line.table.routes,
+        &table.routes,
         &a,
         &b,
     )
@@ -71,43 +83,32 @@ pub fn step(mut line: Line, kind: u8, train: u8, number: u8) -> Outcome
         return Outcome { code: 27, line };
     }
     let trains = line.trains;
-    if checking::trains::some_train_faulty(n, k, trains, &line.routes, &a, &b, &kinds) {
+    if checking::trains::some_train_faulty(table.n, table.k, trains, &line.routes, &a, &b, &kinds) {
         return Outcome { code: 27, line };
     }
     let boxes = line.boxes;
-    if checking::boxes::some_box_faulty(k, m, plans, boxes) {
+    if checking::boxes::some_box_faulty(table.k, table.m, plans, boxes) {
         return Outcome { code: 27, line };
     }
-    let i = steps::train_index(train);
-    let r = trains[i];
-    let j = steps::box_index(deciding::concerned(kind, train, r, &line.routes, &a, &b, &kinds));
-    let mut p = steps::no_plan();
-    let mut x = steps::no_box();
-    if j < 96 {
-        p = plans[j];
-        x = boxes[j];
-    }
-    let d = deciding::decide(
-        kind,
-        number,
-        steps::known(train, k),
-        train,
-        r,
-        p,
-        x,
+    let bytes = [kind, train, number];
+    let mut answer = [0u8; 1];
+    let moved = steps::advance(
+        table,
+        boxes,
+        trains,
         &line.routes,
+        &bytes,
+        &mut answer,
         &a,
         &b,
         &kinds,
     );
-    match d {
-        Decided::Refused(code) => Outcome { code, line },
-        Decided::Changed(code, train_after, box_after) => {
-            line.trains[i] = train_after;
-            if j < 96 {
-                line.boxes[j] = box_after;
-            }
-            Outcome { code, line }
-        }
+    let boxes_after = moved.boxes;
+    let trains_after = moved.trains;
+    line.boxes = boxes_after;
+    line.trains = trains_after;
+    Outcome {
+        code: answer[0],
+        line,
     }
 }

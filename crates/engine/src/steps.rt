@@ -1,8 +1,9 @@
 // Steps of three bytes, one after the other.
 use deciding::Decided;
 use rules::BoxPlan;
-use rules::Line;
 use rules::SwitchBox;
+use rules::Table;
+use rules::Train;
 ghost use mathlib.Core.Path.{_≡_};
 ghost use Prim.Native.Nat.{_+_, _/_, _-_, _≤_, _<_};
 ghost use mathlib.Core.Bool.{cond, not};
@@ -14,7 +15,7 @@ ghost use Rattle.rules.specs.Line.{noBox};
 ghost use Rattle.rules.specs.Steps.{step};
 ghost use Rattle.rules.specs.History.{lineAfter};
 ghost use Rattle.rules.specs.Run.{wholeSteps, stepCount, answersFrom};
-ghost use Rattle.engine.specs.Columns.{Columns};
+ghost use Rattle.engine.specs.Loop.{Columns, standing};
 
 // How many steps so many bytes are, a last one of one or two bytes among them.
 pub fn count(bytes: usize) -> usize
@@ -28,7 +29,7 @@ pub fn count(bytes: usize) -> usize
 }
 
 // There is a train with this number.
-pub(crate) fn known(train: u8, k: u8) -> bool
+fn known(train: u8, k: u8) -> bool
     ensures { λ r. ⌜ r ≡ not (outside k train) ⌝ }
 {
     if train == 0 {
@@ -41,7 +42,7 @@ pub(crate) fn known(train: u8, k: u8) -> bool
 }
 
 // The index of a train's record, 0 where there is none.
-pub(crate) fn train_index(train: u8) -> usize
+fn train_index(train: u8) -> usize
     ensures { λ r. ⌜ r ≡ cond (outside 16 train) 0 (train - 1) ⌝ }
     ensures { λ r. ⌜ r < 16 ⌝ }
 {
@@ -55,7 +56,7 @@ pub(crate) fn train_index(train: u8) -> usize
 }
 
 // The index of a box's record, 96 where there is none.
-pub(crate) fn box_index(number: u8) -> usize
+fn box_index(number: u8) -> usize
     ensures { λ r. ⌜ r ≡ cond (outside 96 number) 96 (number - 1) ⌝ }
 {
     if number == 0 {
@@ -68,7 +69,7 @@ pub(crate) fn box_index(number: u8) -> usize
 }
 
 // What is read where there is no such box.
-pub(crate) fn no_plan() -> BoxPlan
+fn no_plan() -> BoxPlan
     ensures { λ r. ⌜ r ≡ noBoxPlan ⌝ }
 {
     BoxPlan {
@@ -80,7 +81,7 @@ pub(crate) fn no_plan() -> BoxPlan
     }
 }
 
-pub(crate) fn no_box() -> SwitchBox
+fn no_box() -> SwitchBox
     ensures { λ r. ⌜ r ≡ noBox ⌝ }
 {
     SwitchBox {
@@ -93,22 +94,31 @@ pub(crate) fn no_box() -> SwitchBox
     }
 }
 
-// Takes all steps from a line on, and puts their codes into the buffer. A refused step puts nothing back.
+// What steps change of a line: its boxes and trains.
+pub(crate) struct Moved {
+    pub boxes: [SwitchBox; 96],
+    pub trains: [Train; 16],
+}
+
+// Takes all steps from a line on, with these boxes, trains and routes, and puts their codes into the buffer. A refused step puts
+// nothing back. The columns are those of the table.
 pub(crate) fn advance(
-    mut l: Line,
+    table: Table,
+    mut boxes: [SwitchBox; 96],
+    mut trains: [Train; 16],
+    routes: &[u8; 1024],
     steps: &[u8],
     answers: &mut [u8],
     a: &[u8; 256],
     b: &[u8; 256],
     kinds: &[u8; 256],
-) -> Line
+) -> Moved
     requires { ⌜ stepCount (now steps) ≤ length (now answers) ⌝ }
-    requires { ⌜ l .table .k ≤ 16 ⌝ }
-    requires { ⌜ Columns (l .table) (now a) (now b) (now kinds) ⌝ }
-    ensures { λ r. ⌜ r ≡ lineAfter step l (wholeSteps (now (steps .entry))) ⌝ }
-    ensures { λ r. ⌜ now (answers .exit) ≡ answersFrom step l (now (steps .entry)) ++ drop (stepCount (now (steps .entry))) (now (answers .entry)) ⌝ }
+    requires { ⌜ table .k ≤ 16 ⌝ }
+    requires { ⌜ Columns table (now a) (now b) (now kinds) ⌝ }
+    ensures { λ r. ⌜ standing table (r .boxes) (r .trains) (now (routes .entry)) ≡ lineAfter step (standing table boxes trains (now (routes .entry))) (wholeSteps (now (steps .entry))) ⌝ }
+    ensures { λ r. ⌜ now (answers .exit) ≡ answersFrom step (standing table boxes trains (now (routes .entry))) (now (steps .entry)) ++ drop (stepCount (now (steps .entry))) (now (answers .entry)) ⌝ }
 {
-    let table = l.table;
     let k = table.k;
     let whole = steps.len() / 3;
     let mut n: usize = 0;
@@ -120,13 +130,13 @@ pub(crate) fn advance(
         let train = steps[at + 1];
         let number = steps[at + 2];
         let i = train_index(train);
-        let r = l.trains[i];
-        let j = box_index(deciding::concerned(kind, train, r, &l.routes, a, b, kinds));
+        let r = trains[i];
+        let j = box_index(deciding::concerned(kind, train, r, routes, a, b, kinds));
         let mut p = no_plan();
         let mut x = no_box();
         if j < 96 {
             p = table.boxes[j];
-            x = l.boxes[j];
+            x = boxes[j];
         }
         let d = deciding::decide(
             kind,
@@ -136,7 +146,7 @@ pub(crate) fn advance(
             r,
             p,
             x,
-            &l.routes,
+            routes,
             a,
             b,
             kinds,
@@ -147,9 +157,9 @@ pub(crate) fn advance(
             }
             Decided::Changed(code, train_after, box_after) => {
                 answers[index] = code;
-                l.trains[i] = train_after;
+                trains[i] = train_after;
                 if j < 96 {
-                    l.boxes[j] = box_after;
+                    boxes[j] = box_after;
                 }
             }
         }
@@ -157,5 +167,5 @@ pub(crate) fn advance(
     if 3 * whole < steps.len() {
         answers[whole] = 13;
     }
-    l
+    Moved { boxes, trains }
 }

@@ -25,8 +25,8 @@ returns-2 c =
 advance-requires : tie.Need-advance-requires
 unfolding stepCount
 advance-requires c κs =
-    let kinds = c .before .before .before .before in
-    let enough = kinds .before .before .before .before .before .before in
+    let kinds = c .before .before .before .before .before .before .before .before in
+    let enough = kinds .before .before .before .before .before .before .before in
     let counts = enough .before in
     let read = counts .before .before .before in (
       omega (arith, enough .if2 .left, counts .count .ensures),
@@ -39,8 +39,8 @@ advance-requires c κs =
 returns-3 : tie.Need-returns-3
 unfolding stepCount
 returns-3 c =
-    let taken = c .before .before in
-    let enough = taken .before .before .before .before .before .before .before .before .before .before .before in
+    let taken = c .before .before .before .before in
+    let enough = taken .before .before .before .before .before .before .before .before .before .before .before .before .before .before .before .before in
     let counts = enough .before in
     let read = counts .before .before .before in
     let args = read .before .before .before .before .args in

@@ -13,32 +13,33 @@ use Rattle.rules.specs.Line.{noBox}
 use Rattle.rules.specs.Steps.{step}
 use Rattle.rules.specs.Run.{stepCount}
 use Rattle.rules.proofs.Rows.{length-mapped}
+use Rattle.engine.specs.Loop.{standing}
 use Rattle.engine.proofs.Running.{stepAt, running-start, running-room, running-line, running-whole, running-partial}
 use Rattle.engine.proofs.Turn.{Between, Turned, read-past, turn, turn-refused, turn-here, turn-nowhere}
 use Rattle.engine.proofs.steps.advance.Statement.{statement}
 use Rattle.engine.proofs.steps.advance.Tie as tie
 
 abbrev Inv-loop : tie.InvT-loop
-Inv-loop steps answers₀ a b kinds l₀ table k whole n₀ answers l n = Between table a b kinds l₀ steps answers₀ l answers n
+Inv-loop routes steps answers₀ a b kinds table boxes₀ trains₀ k whole n₀ answers boxes trains n =
+    Between a b kinds (standing table boxes₀ trains₀ routes) steps answers₀ (standing table boxes trains routes) answers n
 
 abbrev μ-loop : tie.MeasureT-loop
-μ-loop steps answers₀ a b kinds l₀ table k whole n₀ answers l n = whole - n
+μ-loop routes steps answers₀ a b kinds table boxes₀ trains₀ k whole n₀ answers boxes trains n = whole - n
 
--- How many records a line has places for.
-segments-sized : (c : tie.Start Inv-loop μ-loop) → length (c .args .t1 .table .segments) ≡ 96
-segments-sized c = search (needs, length-mapped, c .good .0 .1 .1 .0)
+-- How many records there are places for.
+segments-sized : (c : tie.Start Inv-loop μ-loop) → length (c .args .t1 .segments) ≡ 96
+segments-sized c = search (needs, length-mapped)
 
-plans-sized : (c : tie.Start Inv-loop μ-loop) → length (c .args .t1 .table .boxes) ≡ 96
-plans-sized c = search (needs, length-mapped, c .good .0 .1 .1 .0)
+plans-sized : (c : tie.Start Inv-loop μ-loop) → length (c .args .t1 .boxes) ≡ 96
+plans-sized c = search (needs, length-mapped)
 
-boxes-sized : (c : tie.Start Inv-loop μ-loop) → length (c .args .t1 .boxes) ≡ 96
+boxes-sized : (c : tie.Start Inv-loop μ-loop) → length (c .args .t2) ≡ 96
 boxes-sized c = search (needs, length-mapped)
 
 loop-holds : tie.Need-loop-holds Inv-loop μ-loop
 loop-holds c =
-    let start = c .before .before .before in
+    let start = c .before .before in
     record {
-      same = refl;
       ready =
           record {
             columns = start .pre .1 .1;
@@ -51,78 +52,75 @@ loop-holds c =
       running = running-start step _ _ _;
     }
 
+-- A turn from its start, and the loop's state there.
+abbrev entered : tie.Joined1 Inv-loop μ-loop → tie.In-loop Inv-loop μ-loop
+entered c = c .before .before .before .before .before .before .before .before .before .before
+
 -- The plan and the record of the box at this index, where the ways to them have met; both are empty past the end.
 plan-at : (c : tie.Joined1 Inv-loop μ-loop)
-    → c .if1 .p ≡ getD (c .before .before .before .before .before .before .before .before .before .before .before .before .before .loop .l .table .boxes) (c .before .before .before .box-index .result) noBoxPlan
+    → c .if1 .p ≡ getD (entered c .before .before .before .before .args .t1 .boxes) (c .before .before .before .box-index .result) noBoxPlan
 plan-at c =
-    let loop = c .before .before .before .before .before .before .before .before .before .before .before .before .before .loop in
+    let start = entered c .before .before .before .before in
     ⊎-elim
-    (λ w. w .3 ∙ ap (λ (t : Table). getD (t .boxes) (c .before .before .before .box-index .result) noBoxPlan) (sym (loop .inv .same)))
-    (λ w. read-past (loop .l .table .boxes) _ _ _ (loop .inv .ready .plans) (w .0 .left) (w .1 ∙ c .before .before .no-plan .ensures))
+    (λ w. w .3)
+    (λ w. read-past (start .args .t1 .boxes) _ _ _ (plans-sized start) (w .0 .left) (w .1 ∙ c .before .before .no-plan .ensures))
     (c .if1 .came)
 
 box-at : (c : tie.Joined1 Inv-loop μ-loop)
-    → c .if1 .x ≡ getD (c .before .before .before .before .before .before .before .before .before .before .before .before .before .loop .l .boxes) (c .before .before .before .box-index .result) noBox
+    → c .if1 .x ≡ getD (entered c .before .loop .boxes) (c .before .before .before .box-index .result) noBox
 box-at c =
-    let loop = c .before .before .before .before .before .before .before .before .before .before .before .before .before .loop in
+    let loop = entered c .before .loop in
     ⊎-elim
     (λ w. w .4)
-    (λ w. read-past (loop .l .boxes) _ _ _ (loop .inv .ready .boxes) (w .0 .left) (w .2 ∙ c .before .no-box .ensures))
+    (λ w. read-past (loop .boxes) _ _ _ (loop .inv .ready .boxes) (w .0 .left) (w .2 ∙ c .before .no-box .ensures))
     (c .if1 .came)
 
 -- The turn up to what is decided.
 turned : (c : tie.After-decide Inv-loop μ-loop)
-    → let met = c .before .before .before .before in
-    let index = met .before .before .before .before .before .before .before .before in
-    let loop = index .before .before .before .before .before .loop in
-    Turned (loop .l) (stepAt (index .before .before .before .before .before .before .before .before .before .args .steps .now) (loop .n))
-    (index .train-index .result) (met .before .before .before .box-index .result) (c .decide .result)
+    → let met = c .before .before in
+    let loop = entered met .before .loop in
+    let args = entered met .before .before .before .before .args in
+    Turned (standing (args .t1) (loop .boxes) (loop .trains) (args .routes .now)) (stepAt (args .steps .now) (loop .n)) (met .before .before .before .before .before .before .train-index .result)
+    (met .before .before .before .box-index .result) (c .decide .result)
 turned c =
-    let asked = c .before .before .before in
-    let met = asked .before in
-    let concerned = met .before .before .before .before in
-    let index = concerned .before .before .before .before in
-    let loop = index .before .before .before .before .before .loop in
-    let start = index .before .before .before .before .before .before .before .before .before in
-    let s = stepAt (start .args .steps .now) (loop .n) in
-    turn (loop .l) s _ _ _ (loop .inv .ready) _
-    (asked .known .ensures ∙ ap (λ (t : Table). not (outside (t .k) (s .train))) (sym (loop .inv .same)))
-    _ (index .train-index .ensures .0) _ refl _ (concerned .concerned .ensures) _ (met .before .before .before .box-index .ensures)
+    let known = c .before in
+    let met = known .before in
+    let index = met .before .before .before in
+    let loop = entered met .before .loop in
+    let args = entered met .before .before .before .before .args in
+    turn _ (stepAt (args .steps .now) (loop .n)) _ _ _ (loop .inv .ready) _ (known .known .ensures)
+    _ (index .before .before .before .train-index .ensures .0) _ refl _ (index .before .concerned .ensures) _ (index .box-index .ensures)
     _ (plan-at met) _ (box-at met) _ (c .decide .ensures)
-
--- The turn that is decided, from its start.
-abbrev entered : tie.After-decide Inv-loop μ-loop → tie.In-loop Inv-loop μ-loop
-entered c = c .before .before .before .before .before .before .before .before .before .before .before .before .before .before .before .before
 
 loop-again : tie.Need-loop-again Inv-loop μ-loop
 loop-again c =
     let decided = c .before .before .before in
-    let start = entered decided in
+    let start = entered (decided .before .before) in
     turn-refused (start .before .loop .inv) (start .loop-test .taken) (turned decided) (c .before .d .given .1)
 
 loop-again-2 : tie.Need-loop-again-2 Inv-loop μ-loop
 loop-again-2 c =
     let decided = c .before .before .before .before in
-    let start = entered decided in
+    let start = entered (decided .before .before) in
     turn-here (start .before .loop .inv) (start .loop-test .taken) (turned decided) (c .before .before .d2 .given .1)
 
 loop-again-3 : tie.Need-loop-again-3 Inv-loop μ-loop
 loop-again-3 c =
     let decided = c .before .before .before .before in
-    let start = entered decided in
+    let start = entered (decided .before .before) in
     turn-nowhere (start .before .loop .inv) (start .loop-test .taken) (turned decided) (c .before .before .d2 .given .1) (c .if2 .left)
 
 -- There is room for the answer.
-room : (c : tie.After-decide Inv-loop μ-loop) → entered c .before .loop .n < length (entered c .before .loop .answers)
+room : (c : tie.Joined1 Inv-loop μ-loop) → entered c .before .loop .n < length (entered c .before .loop .answers)
 room c =
     let start = entered c in
     running-room _ (start .before .loop .answers) (start .before .loop .inv .room) (start .loop-test .taken)
 
 slice-write-answers : tie.Need-slice-write-answers Inv-loop μ-loop
-slice-write-answers c = room (c .before .before .before)
+slice-write-answers c = room (c .before .before .before .before .before)
 
 slice-write-answers-2 : tie.Need-slice-write-answers-2 Inv-loop μ-loop
-slice-write-answers-2 c = room (c .before .before .before)
+slice-write-answers-2 c = room (c .before .before .before .before .before)
 
 slice-write-answers-3 : tie.Need-slice-write-answers-3 Inv-loop μ-loop
 unfolding stepCount
@@ -145,19 +143,23 @@ returns-2 c =
     (running-line (between .running) (c .before .loop-test .left), running-whole (between .running) (c .before .loop-test .left) (omega (arith, c .if3 .left, c .before .loop-test .left)))
 
 loop-less : tie.Need-loop-less Inv-loop μ-loop
-loop-less c = omega (arith, entered (c .before .before .before) .loop-test .taken)
+loop-less c = omega (arith, entered (c .before .before .before .before .before) .loop-test .taken)
 
 loop-less-2 : tie.Need-loop-less-2 Inv-loop μ-loop
-loop-less-2 c = omega (arith, entered (c .before .before .before .before) .loop-test .taken)
+loop-less-2 c = omega (arith, entered (c .before .before .before .before .before .before) .loop-test .taken)
 
 loop-less-3 : tie.Need-loop-less-3 Inv-loop μ-loop
-loop-less-3 c = omega (arith, entered (c .before .before .before .before) .loop-test .taken)
+loop-less-3 c = omega (arith, entered (c .before .before .before .before .before .before) .loop-test .taken)
 
-mul-train-after : tie.Need-mul-train-after Inv-loop μ-loop
-mul-train-after c = omega (arith, c .before .before .before .before .before .before .before .before .before .before .before .before .before .before .before .train-index .ensures .1)
+-- The train is put back at its index.
+train-low : (c : tie.Joined1 Inv-loop μ-loop) → c .before .before .before .before .before .before .train-index .result < 16
+train-low c = c .before .before .before .before .before .before .train-index .ensures .1
 
-element-set-from-train-after : tie.Need-element-set-from-train-after Inv-loop μ-loop
-element-set-from-train-after c = omega (arith, c .before .before .before .before .before .before .before .before .before .before .before .before .before .before .before .train-index .ensures .1)
+mul-trains : tie.Need-mul-trains Inv-loop μ-loop
+mul-trains c = omega (arith, train-low (c .before .before .before .before .before))
+
+array-set-from-trains : tie.Need-array-set-from-trains Inv-loop μ-loop
+array-set-from-trains c = omega (arith, train-low (c .before .before .before .before .before))
 
 pub advance-spec : {M : Type 1} → statement M
 advance-spec =
@@ -192,8 +194,8 @@ advance-spec =
     loop-again
     (λ c. search needs)
     slice-write-answers-2
-    mul-train-after
-    element-set-from-train-after
+    mul-trains
+    array-set-from-trains
     (λ c. omega arith)
     (λ c. omega arith)
     loop-less-2

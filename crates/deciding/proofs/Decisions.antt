@@ -1,4 +1,4 @@
--- What is decided, from the tests that the program makes: Enter, Clear, kinds 3 to 6, and a step by its kind.
+-- What is decided, from the tests that the program makes: a request, a box's answer, Enter, Clear, kinds 3 to 6, and a step by its kind.
 use Prim.Native.Nat.{ℕ, _≤_, _<_}
 use mathlib.Core.Path.{_≡_, sym, _∙_}
 use mathlib.Core.Logic.{_⊎_, ⊎-elim, _≢_}
@@ -8,14 +8,37 @@ use lib.Dec.{leb}
 use borrow.Author.Tests.{not-true, not-false, eq-eqb, ne-eqb, le-leb, lt-leb}
 use Rattle.rules.specs.declared.BoxPlan.{BoxPlan}
 use Rattle.rules.specs.declared.SwitchBox.{SwitchBox}
+use Rattle.rules.specs.declared.Request.{Request}
+use Rattle.rules.specs.declared.Message.the-variants.{Sent, Answered}
 use Rattle.rules.specs.declared.Train.{Train}
 use Rattle.rules.specs.declared.Around.{Around}
 use Rattle.rules.specs.Rows.{first}
-use Rattle.rules.specs.Steps.{enterRows, clearRows, atEnd, cleared, released}
+use Rattle.rules.specs.Steps.{withMessage, requestRows, boxRows, granted, enterRows, clearRows, atEnd, cleared, released}
 use Rattle.rules.proofs.StepRows.{enter-iff}
 use Rattle.rules.proofs.Tests.{tests, and-true, and-left, and-right}
 use Rattle.deciding.specs.declared.Decided.{Decided}
-use Rattle.deciding.specs.Decided.{decidedAs, refusing, boxAnswering, hearing, entering, clearing, plainly, decided}
+use Rattle.deciding.specs.Decided.{decidedAs, refusing, sending, answering, boxAnswering, hearing, entering, clearing, plainly, decided}
+
+-- A request is refused with the code of its rows, or sent.
+module _ (v : Around) (r : Train) (q : Request) (x : SwitchBox) (c : ℕ) (code : c ≡ first (requestRows v r q)) where
+  pub send-refused : (d : Decided) → c ≢ 0 → d ≡ refusing c → d ≡ sending v r q x
+  unfolding sending
+  send-refused d n e = rw (← code, ne-eqb c 0 n) e
+
+  pub send-free : (t : Train) → c ≡ 0 → t ≡ withMessage r (Sent q) → decidedAs 0 t x ≡ sending v r q x
+  unfolding sending
+  send-free t none e = rw (e, ← code, none)
+
+-- A box's answer goes into the message; a no leaves the box as it was.
+module _ (v : Around) (r : Train) (p : BoxPlan) (x : SwitchBox) (q : Request) (c : ℕ) (t : Train)
+    (code : c ≡ first (boxRows v p x q)) (message : t ≡ withMessage r (Answered q c)) where
+  pub reply-no : c ≢ 0 → decidedAs c t x ≡ answering v r p x q
+  unfolding answering
+  reply-no n = rw (message, ← code, ne-eqb c 0 n)
+
+  pub reply-yes : (y : SwitchBox) → c ≡ 0 → y ≡ granted v p x q → decidedAs 0 t y ≡ answering v r p x q
+  unfolding answering
+  reply-yes y none e = rw (message, e, ← code, none)
 
 -- The codes of Enter: 20 where the train is crossing, 16 where there is no next.
 module _ (v : Around) (r : Train) where

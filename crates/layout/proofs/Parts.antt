@@ -16,7 +16,7 @@ use Rattle.rules.specs.Placing.{routeFault, startFault, placingRows, conditionR
 use Rattle.rules.proofs.Tests.{first-before}
 use Rattle.rules.proofs.Rows.{any-same, list-same, list-all}
 use Rattle.layout.specs.Ends.{column, farEnd, endsIn, ringOf, boxFaultOn, sharesStart}
-use Rattle.layout.specs.Parts.{endsFaultIn, planFaultIn, boxFaultIn, unlistedIn, shapeFaultIn, trainFaultIn, startFaultIn, networkRowsIn, placingRowsIn, partsCode}
+use Rattle.layout.specs.Parts.{endsFaultIn, planFaultIn, boxFaultIn, unlistedIn, shapeFaultIn, trainRouteFaultIn, startFaultIn, networkRowsIn, placingRowsIn, partsCode}
 use Rattle.layout.proofs.Laws.{far-end, a-column, b-column}
 use Rattle.layout.proofs.Routes.{route-in}
 use Rattle.layout.proofs.Codes.{head-limits}
@@ -81,8 +81,8 @@ module _ (t : Table) (sized : length (t .segments) ≡ 96) where
   ring-same = loop-same t (ringOf (t .n) a b) refl (λ s x. rw segments-same)
 
   -- Code 11 at a train.
-  route-same : (i : ℕ) → 1 ≤ i → i ≤ 16 → trainFaultIn (t .n) (t .trains) (t .routes) a b i ≡ routeFault t (t .routes) i (trainPlanAt t i .direction) (trainPlanAt t i .length)
-  unfolding trainFaultIn trainPlanAt
+  route-same : (i : ℕ) → 1 ≤ i → i ≤ 16 → trainRouteFaultIn (t .n) (t .trains) (t .routes) a b i ≡ routeFault t (t .routes) i (trainPlanAt t i .direction) (trainPlanAt t i .length)
+  unfolding trainRouteFaultIn trainPlanAt
   route-same i l h = route-in t a b (t .routes) i _ _ sized refl refl l h
 
   -- So the rows are the table's.
@@ -98,7 +98,7 @@ module _ (t : Table) (sized : length (t .segments) ≡ 96) where
 
   placing-same : t .k ≤ 16 → placingRowsIn (t .n) (t .k) (t .trains) (t .routes) a b ≡ placingRows t
   unfolding placingRowsIn placingRows shapeFaultIn startFaultIn startFault sharesStart trainPlanAt
-  placing-same few = rw (any-same (trainFaultIn (t .n) (t .trains) (t .routes) a b) _ (t .k) (λ i l h. route-same i l (omega arith)))
+  placing-same few = rw (any-same (trainRouteFaultIn (t .n) (t .trains) (t .routes) a b) _ (t .k) (λ i l h. route-same i l (omega arith)))
 
   -- And so is the code. Where the head has a code, it does not matter what comes after.
   pub parts-code : partsCode (t .version) (t .n) (t .m) (t .k) (t .boxes) (t .trains) (t .routes) (column (farBox t 1)) (column (farBox t 0)) ≡ tableCode t

@@ -16,7 +16,7 @@ use Rattle.rules.specs.Rows.{outside, anyOf}
 use Rattle.rules.specs.Track.{noTrainPlan, routeAt, nearBox, farBox, follows}
 use Rattle.rules.specs.Placing.{routePlaceFault, routeFault}
 use Rattle.layout.specs.Ends.{column, placeBreaks, routeFaultIn, sharesStart}
-use Rattle.layout.specs.Parts.{trainFaultIn, startFaultIn}
+use Rattle.layout.specs.Parts.{trainRouteFaultIn, startFaultIn}
 use Rattle.layout.proofs.Laws.{a-column, b-column}
 
 -- The segment at the place with index p of train i's route.
@@ -83,8 +83,8 @@ module _ (t : Table) (a b routes : List ℕ) (i d r : ℕ) (sized : length (t .s
       ]
 
 -- What code 11 says of the train with index i; r is what a function answered for it, and v what a branch found.
-pub route-answer : (n : ℕ) (trains : List TrainPlan) (routes a b : List ℕ) (i : ℕ) (r v : Bool) → r ≡ routeFaultIn n a b routes (i + 1) (getD trains i noTrainPlan .direction) (getD trains i noTrainPlan .length) → r ≡ v → trainFaultIn n trains routes a b (i + 1) ≡ v
-unfolding trainFaultIn
+pub route-answer : (n : ℕ) (trains : List TrainPlan) (routes a b : List ℕ) (i : ℕ) (r v : Bool) → r ≡ routeFaultIn n a b routes (i + 1) (getD trains i noTrainPlan .direction) (getD trains i noTrainPlan .length) → r ≡ v → trainRouteFaultIn n trains routes a b (i + 1) ≡ v
+unfolding trainRouteFaultIn
 route-answer n trains routes a b i r v e f = rw nth-at (sym e ∙ f)
 
 -- Code 12 at the trains with indices i and j.

@@ -37,8 +37,8 @@ unlistedIn boxes a b s =
 unfoldable pub shapeFaultIn : List TrainPlan → ℕ → Bool
 shapeFaultIn trains i = let p = nth trains i noTrainPlan in routeShapeFault (p .direction) (p .length)
 
-unfoldable pub trainFaultIn : ℕ → List TrainPlan → List ℕ → List ℕ → List ℕ → ℕ → Bool
-trainFaultIn n trains routes a b i =
+unfoldable pub trainRouteFaultIn : ℕ → List TrainPlan → List ℕ → List ℕ → List ℕ → ℕ → Bool
+trainRouteFaultIn n trains routes a b i =
     let p = nth trains i noTrainPlan in
     routeFaultIn n a b routes i (p .direction) (p .length)
 
@@ -58,7 +58,7 @@ networkRowsIn n m boxes a b =
 unfoldable pub placingRowsIn : ℕ → ℕ → List TrainPlan → List ℕ → List ℕ → List ℕ → List Row
 placingRowsIn n k trains routes a b =
     10 if anyOf k (shapeFaultIn trains)
-    ∷ 11 if anyOf k (trainFaultIn n trains routes a b)
+    ∷ 11 if anyOf k (trainRouteFaultIn n trains routes a b)
     ∷ 12 if anyOf k (startFaultIn routes)
     ∷ []
 

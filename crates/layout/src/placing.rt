@@ -9,7 +9,7 @@ ghost use lib.ListN.{getD};
 ghost use Rattle.rules.specs.Rows.{anyOf};
 ghost use Rattle.rules.specs.Placing.{routeShapeFault};
 ghost use Rattle.layout.specs.Ends.{placeBreaks, routeFaultIn, sharesStart};
-ghost use Rattle.layout.specs.Parts.{shapeFaultIn, trainFaultIn, startFaultIn};
+ghost use Rattle.layout.specs.Parts.{shapeFaultIn, trainRouteFaultIn, startFaultIn};
 
 // Code 10 on a train's direction and route length.
 pub fn shape_faulty(d: u8, r: u8) -> bool
@@ -116,7 +116,7 @@ pub(crate) fn some_route_faulty(
     b: &[u8; 256],
 ) -> bool
     requires { ⌜ k ≤ 16 ⌝ }
-    ensures { λ r. ⌜ r ≡ anyOf k (trainFaultIn n trains (now (routes .entry)) (now (a .entry)) (now (b .entry))) ⌝ }
+    ensures { λ r. ⌜ r ≡ anyOf k (trainRouteFaultIn n trains (now (routes .entry)) (now (a .entry)) (now (b .entry))) ⌝ }
 {
     let mut number: u8 = 0;
     while number < k {

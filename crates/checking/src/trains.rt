@@ -117,8 +117,8 @@ fn train_faulty(
     message_faulty(number, r, routes, a, b, kinds)
 }
 
-// Code 27 at trains 1 to k, by their records, the routes as they stand and the columns of `train_faulty`: there is no room for k
-// trains, or one of them is at fault. There are n segments.
+// Code 27 at trains 1 to k, by their records, the routes as they stand, the boxes at the A ends and at the B ends of segments and
+// the kinds of boxes: there is no room for k trains, or one of them is at fault. There are n segments.
 pub fn some_train_faulty(
     n: u8,
     k: u8,

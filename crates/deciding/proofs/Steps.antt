@@ -23,20 +23,15 @@ use Rattle.rules.specs.Track.{noBoxPlan, planAt}
 use Rattle.rules.specs.Line.{noBox, noTrain, aroundTrain, around, boxAt, trainAt, putTrain, putBox, messageBox}
 use Rattle.rules.specs.Steps.{Step, Effect, refused, train, trainAndBox, apply, unless, forTrain, send, reply, boxAnswers, trainHears, enter, clear, plainEffect, effect, step}
 use Rattle.rules.proofs.Tests.{facts, outside-false-iff}
-use Rattle.rules.proofs.Frames.{put, train-alone}
+use Rattle.rules.proofs.Frames.{train-alone}
 use Rattle.deciding.specs.declared.Decided.{Decided}
 use Rattle.deciding.specs.declared.Decided.the-variants.{Refused, Changed}
-use Rattle.deciding.specs.Decided.{concernedBox, decidedAs, refusing, unlessStopped, sending, answering, boxAnswering, hearing, entering, clearing, asking, plainly, decided}
+use Rattle.deciding.specs.Decided.{putBack, concernedBox, decidedAs, refusing, unlessStopped, sending, answering, boxAnswering, hearing, entering, clearing, asking, plainly, decided}
 
 -- What holds where a test is passed and where it is not holds.
 tested {ℓ} : {P : Type ℓ} (c : Bool) → (c ≡ true → P) → (c ≡ false → P) → P
 tested true h k = h refl
 tested false h k = k refl
-
--- What is decided of train i and box b, put back.
-abbrev pub putBack : Line → ℕ → ℕ → Decided → Outcome
-putBack l i b (Refused c) = record { code = c; line = l }
-putBack l i b (Changed c r x) = record { code = c; line = put l i r b x }
 
 -- An effect of train i, and the same decided of it and of box b.
 record Same (l : Line) (i b : ℕ) (e : Effect) (d : Decided) : Type 0 where
@@ -127,7 +122,7 @@ module _ (l : Line) (s : Step) where
         ]
       ]
 
-  -- A train of the line: what is decided, put back, is the step.
+  -- Code 14 does not stop a train of the line.
   known-same : {b : ℕ} {e : Effect} {d : Decided} → outside (l .table .k) (s .train) ≡ false → Same l (s .train) b e d
       → Same l (s .train) b (forTrain l (s .train) e) d
   unfolding forTrain
@@ -144,7 +139,8 @@ module _ (l : Line) (s : Step) where
       either (eqb (s .box) 0) (λ _. known-same h (plain-same low high)) (λ _. refusal 13))
       (λ _. refusal 13)
 
-  pub step-known : outside (l .table .k) (s .train) ≡ false → step l s ≡ putBack l (s .train) boxOf decidedHere
+  -- What is decided of a train of the line, put back, is the step.
+  step-known : outside (l .table .k) (s .train) ≡ false → step l s ≡ putBack l (s .train) boxOf decidedHere
   unfolding step
   step-known h = effect-same h .same
 

@@ -9,12 +9,19 @@ use Rattle.rules.specs.declared.Request.the-variants.{Reserve, Lock}
 use Rattle.rules.specs.declared.Message.{Message}
 use Rattle.rules.specs.declared.Message.the-variants.{Idle, Sent, Answered}
 use Rattle.rules.specs.declared.Train.{Train}
+use Rattle.rules.specs.declared.Line.{Line}
 use Rattle.rules.specs.declared.Around.{Around}
+use Rattle.rules.specs.declared.Outcome.{Outcome}
 use Rattle.rules.specs.Rows.{first}
-use Rattle.rules.specs.Line.{messageBox}
+use Rattle.rules.specs.Line.{putTrain, putBox, messageBox}
 use Rattle.rules.specs.Steps.{withMessage, requestRows, enterRows, clearRows, boxRows, positionFor, granted, heard, entered, sensed, cleared, released}
 use Rattle.deciding.specs.declared.Decided.{Decided}
 use Rattle.deciding.specs.declared.Decided.the-variants.{Refused, Changed}
+
+-- What a decided step of train i at box b means: its code, and the line as it was, or with the train and the box put back.
+abbrev pub putBack : Line → ℕ → ℕ → Decided → Outcome
+putBack l i b (Refused c) = record { code = c; line = l }
+putBack l i b (Changed c r x) = record { code = c; line = putBox (putTrain l i r) b x }
 
 -- The box that a step of this kind concerns, 0 where there is none.
 unfoldable pub concernedBox : ℕ → Around → Train → ℕ

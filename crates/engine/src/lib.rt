@@ -63,7 +63,7 @@ pub fn step(mut line: Line, kind: u8, train: u8, number: u8) -> Outcome
     let table = line.table;
     let segments = table.segments;
     let plans = table.boxes;
-    let starts = table.trains;
+    let train_plans = table.trains;
     let a = network::far_boxes(segments, 1);
     let b = network::far_boxes(segments, 0);
     let kinds = sight::kinds(plans);
@@ -73,7 +73,7 @@ pub fn step(mut line: Line, kind: u8, train: u8, number: u8) -> Outcome
         table.m,
         table.k,
         plans,
-        starts,
+        train_plans,
         &table.routes,
         &a,
         &b,

@@ -3,7 +3,7 @@
 -- each expects.
 use Prim.Native.Nat.{ℕ, _+_, _-_, _*_}
 use mathlib.Core.List.{List, [], _∷_, _++_}
-use lib.ListN.{length, take, set}
+use lib.ListN.{take, set}
 use Rattle.rules.specs.declared.Table.{Table}
 use Rattle.rules.specs.declared.SwitchBox.{SwitchBox}
 use Rattle.rules.specs.declared.Train.{Train}
@@ -144,7 +144,7 @@ found (atomicAnswersTo bytes steps) =
 found (atomicBoxAfter bytes steps b) = boxNumbers (boxAt (atomic (decode bytes) steps) b)
 found (routeOf bytes i) = routeCode bytes i ∷ routePart bytes i
 
--- A question and the answer that 01 gives.
+-- A question and the answer that 01 gives or, for runs and the printout in lent memory, its reading in docs/DECISIONS.md.
 pub record Case : Type 0 where
   pub ask : Question
   pub expected : List ℕ

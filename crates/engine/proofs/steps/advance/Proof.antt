@@ -1,13 +1,10 @@
 -- Each turn takes one step.
 use Prim.Native.Nat.{_-_, _<_}
-use mathlib.Core.Path.{_≡_, refl, sym, _∙_, ap}
-use mathlib.Core.Bool.{not}
+use mathlib.Core.Path.{_≡_, refl, _∙_}
 use mathlib.Core.Logic.{⊎-elim}
 use native.Mathlib.Omega.{arith}
 use borrow.Author.Needs.{needs}
 use lib.ListN.{length, getD, length-set}
-use Rattle.rules.specs.declared.Table.{Table}
-use Rattle.rules.specs.Rows.{outside}
 use Rattle.rules.specs.Track.{noBoxPlan}
 use Rattle.rules.specs.Line.{noBox}
 use Rattle.rules.specs.Steps.{step}

@@ -21,7 +21,8 @@ use Rattle.rules.proofs.Rows.{any-false-at, any-false, nth-at, from-at, from-le
 use Rattle.rules.specs.Track.{noSegment, noBoxPlan, noTrainPlan, segmentAt, endA, endB, farBox}
 use Rattle.rules.specs.Network.{planFault, lists}
 use Rattle.rules.specs.Placing.{routeShapeFault}
-use Rattle.layout.specs.Ends.{column, farEnd, endsIn, boxFaultOn}
+use Rattle.loops.specs.Track.{endsIn}
+use Rattle.layout.specs.Ends.{column, farEnd, boxFaultOn}
 use Rattle.layout.specs.Parts.{endsFaultIn, planFaultIn, boxFaultIn, unlistedIn, shapeFaultIn}
 use Rattle.layout.proofs.Column.{column-all}
 

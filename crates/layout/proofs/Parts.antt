@@ -5,6 +5,7 @@ use mathlib.Core.Bool.{not}
 use mathlib.Core.List.{List, [], _∷_}
 use native.Mathlib.Decide.{ℕ-discrete}
 use native.Mathlib.Omega.{arith}
+use borrow.Author.Tests.{le-ltb}
 use lib.ListN.{length}
 use Rattle.rules.specs.declared.Segment.{Segment}
 use Rattle.rules.specs.declared.Table.{Table}
@@ -15,7 +16,8 @@ use Rattle.rules.specs.Network.{endsFault, hasEndA, hasEndB, listedFault, sideF
 use Rattle.rules.specs.Placing.{routeFault, startFault, placingRows, conditionRows, tableCode}
 use Rattle.rules.proofs.Tests.{first-before}
 use Rattle.rules.proofs.Rows.{any-same, list-same, list-all}
-use Rattle.layout.specs.Ends.{column, farEnd, endsIn, ringOf, boxFaultOn, sharesStart}
+use Rattle.loops.specs.Track.{endsIn, trackOf, loopIn}
+use Rattle.layout.specs.Ends.{column, farEnd, boxFaultOn, sharesStart}
 use Rattle.layout.specs.Parts.{endsFaultIn, planFaultIn, boxFaultIn, unlistedIn, shapeFaultIn, trainRouteFaultIn, startFaultIn, networkRowsIn, placingRowsIn, partsCode}
 use Rattle.layout.proofs.Laws.{far-end, a-column, b-column}
 use Rattle.layout.proofs.Routes.{route-in}
@@ -67,7 +69,7 @@ module _ (t : Table) (sized : length (t .segments) ≡ 96) where
   unfolding unlistedIn unlistedFault planAt
   unlisted-same s = rw (a-column t sized s, b-column t sized s)
 
-  -- Code 9: the segments of `ringOf` are the table's own.
+  -- Code 9: the segments of `trackOf` are the table's own.
   segments-same : listOf 96 (endsIn a b) ≡ t .segments
   unfolding endA endB segmentAt
   segments-same =
@@ -76,9 +78,10 @@ module _ (t : Table) (sized : length (t .segments) ≡ 96) where
       ∙ ap (λ (n : ℕ). listOf n (λ s. nth (t .segments) s noSegment)) (sym sized)
       ∙ list-all (t .segments) noSegment
 
-  ring-same : hasLoop (ringOf (t .n) a b) ≡ hasLoop t
-  unfolding follows farBox nearBox endA endB segmentAt
-  ring-same = loop-same t (ringOf (t .n) a b) refl (λ s x. rw segments-same)
+  track-same : t .n ≤ 96 → loopIn (t .n) a b ≡ hasLoop t
+  unfolding loopIn follows farBox nearBox endA endB segmentAt
+  track-same few =
+      rw (le-ltb 96 (t .n) few) (loop-same t (trackOf (t .n) a b) refl (λ s x. rw segments-same))
 
   -- Code 11 at a train.
   route-same : (i : ℕ) → 1 ≤ i → i ≤ 16 → trainRouteFaultIn (t .n) (t .trains) (t .routes) a b i ≡ routeFault t (t .routes) i (trainPlanAt t i .direction) (trainPlanAt t i .length)
@@ -86,14 +89,14 @@ module _ (t : Table) (sized : length (t .segments) ≡ 96) where
   route-same i l h = route-in t a b (t .routes) i _ _ sized refl refl l h
 
   -- So the rows are the table's.
-  network-same : networkRowsIn (t .n) (t .m) (t .boxes) a b ≡ networkRows t
+  network-same : t .n ≤ 96 → networkRowsIn (t .n) (t .m) (t .boxes) a b ≡ networkRows t
   unfolding networkRowsIn networkRows planFaultIn planAt
-  network-same =
+  network-same few =
       rw (
         any-same (endsFaultIn (t .m) a b) (endsFault t) (t .n) (λ s l h. ends-same s),
         any-same (boxFaultIn (t .boxes) a b) (boxFault t) (t .m) (λ x l h. box-same x),
         any-same (unlistedIn (t .boxes) a b) (unlistedFault t) (t .n) (λ s l h. unlisted-same s),
-        ring-same,
+        track-same few,
       )
 
   placing-same : t .k ≤ 16 → placingRowsIn (t .n) (t .k) (t .trains) (t .routes) a b ≡ placingRows t
@@ -105,7 +108,9 @@ module _ (t : Table) (sized : length (t .segments) ≡ 96) where
   unfolding partsCode tableCode conditionRows
   parts-code =
       elim (ℕ-discrete (first (headRows (t .version) (t .n) (t .m) (t .k))) 0) [
-        | yes e ↦ rw (network-same, placing-same (head-limits (t .version) (t .n) (t .m) (t .k) _ refl e .trainsHigh))
+        | yes e ↦
+            let limits = head-limits (t .version) (t .n) (t .m) (t .k) _ refl e in
+            rw (network-same (limits .segmentsHigh), placing-same (limits .trainsHigh))
         | no e ↦ sym (first-before _ _ e) ∙ first-before _ _ e
       ]
 

@@ -1,13 +1,12 @@
--- Boxes at the ends of segments as lists of 256 by the segment's number, and what codes 8, 9, 11 and 12 say of them.
+-- Boxes at the ends of segments as lists of 256 by the segment's number, and what codes 8, 11 and 12 say of them.
 use Prim.Native.Nat.{ℕ, _-_}
 use mathlib.Core.Bool.{Bool, cond, not, _&&_, _||_}
-use mathlib.Core.List.{List, []}
+use mathlib.Core.List.{List}
 use lib.Dec.{eqb, ltb}
 use lib.ListN.{getD}
 use Rattle.rules.specs.declared.Segment.{Segment}
 use Rattle.rules.specs.declared.BoxPlan.{BoxPlan}
-use Rattle.rules.specs.declared.Table.{Table}
-use Rattle.rules.specs.Rows.{nth, listFrom, listOf, anyOf, outside}
+use Rattle.rules.specs.Rows.{nth, listFrom, anyOf, outside}
 use Rattle.rules.specs.Track.{noSegment, routeAt}
 
 -- f 0 .. f 255.
@@ -17,15 +16,6 @@ column f = listFrom 0 256 f
 -- The box at the far end of segment s of a list for a train of direction d.
 unfoldable pub farEnd : List Segment → ℕ → ℕ → ℕ
 farEnd l d s = cond (eqb d 0) (nth l s noSegment .b) (nth l s noSegment .a)
-
--- The ends of segment s, from the columns of A ends and of B ends.
-abbrev pub endsIn : List ℕ → List ℕ → ℕ → Segment
-endsIn a b s = record { a = getD a s 0; b = getD b s 0 }
-
--- A table of n segments with the ends of the columns, and nothing else: what code 9 looks at.
-abbrev pub ringOf : ℕ → List ℕ → List ℕ → Table
-ringOf n a b =
-    record { version = 0; n = n; m = 0; k = 0; segments = listOf 96 (endsIn a b); boxes = []; trains = []; routes = [] }
 
 -- Code 8 at a box with this number and plan, whose places list segments with these ends.
 unfoldable pub boxFaultOn : ℕ → BoxPlan → Segment → Segment → Segment → Bool

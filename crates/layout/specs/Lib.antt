@@ -1,5 +1,4 @@
--- What the functions of this crate compute on columns, parts of tables and ranks; table_code and head_code are stated by the
+-- What the functions of this crate compute on columns and parts of tables; table_code and head_code are stated by the
 -- definitions of `rules`.
 pub mod Ends
 pub mod Parts
-pub mod Ranks

@@ -9,10 +9,10 @@ use Rattle.rules.specs.declared.BoxPlan.{BoxPlan}
 use Rattle.rules.specs.declared.TrainPlan.{TrainPlan}
 use Rattle.rules.specs.Rows.{Row, _if_, first, nth, anyOf, outside}
 use Rattle.rules.specs.Track.{noBoxPlan, noTrainPlan}
-use Rattle.rules.specs.Loop.{hasLoop}
 use Rattle.rules.specs.Network.{planFault, lists, headRows}
 use Rattle.rules.specs.Placing.{routeShapeFault}
-use Rattle.layout.specs.Ends.{endsIn, ringOf, boxFaultOn, routeFaultIn, sharesStart}
+use Rattle.loops.specs.Track.{endsIn, loopIn}
+use Rattle.layout.specs.Ends.{boxFaultOn, routeFaultIn, sharesStart}
 
 -- Code 6 at segment s.
 unfoldable pub endsFaultIn : ℕ → List ℕ → List ℕ → ℕ → Bool
@@ -51,7 +51,7 @@ networkRowsIn n m boxes a b =
     6 if anyOf n (endsFaultIn m a b)
     ∷ 7 if anyOf m (planFaultIn n boxes)
     ∷ 8 if (anyOf m (boxFaultIn boxes a b) || anyOf n (unlistedIn boxes a b))
-    ∷ 9 if hasLoop (ringOf n a b)
+    ∷ 9 if loopIn n a b
     ∷ []
 
 -- The trains: codes 10 to 12.

@@ -1,7 +1,6 @@
 // Whether a table record is accepted: codes 3, 4 and 6 to 12, by the definition `tableCode` of `rules`.
 pub mod network;
 pub mod placing;
-mod ranks;
 
 use rules::BoxPlan;
 use rules::Table;
@@ -53,7 +52,7 @@ fn network_code(n: u8, m: u8, boxes: [BoxPlan; 96], a: &[u8; 256], b: &[u8; 256]
     if network::some_unlisted(n, boxes, a, b) {
         return 8;
     }
-    if ranks::has_loop(n, m, boxes, a, b) {
+    if loops::has_loop(n, m, boxes, a, b) {
         return 9;
     }
     0

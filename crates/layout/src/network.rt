@@ -8,7 +8,8 @@ ghost use lib.Dec.{eqb};
 ghost use Rattle.rules.specs.Rows.{anyOf, outside};
 ghost use Rattle.rules.specs.Track.{isPoint, positionFits};
 ghost use Rattle.rules.specs.Network.{placeFault, planFault, lists};
-ghost use Rattle.layout.specs.Ends.{column, farEnd, endsIn, boxFaultOn};
+ghost use Rattle.loops.specs.Track.{endsIn};
+ghost use Rattle.layout.specs.Ends.{column, farEnd, boxFaultOn};
 ghost use Rattle.layout.specs.Parts.{endsFaultIn, planFaultIn, boxFaultIn, unlistedIn};
 
 // x is 0 or above n.

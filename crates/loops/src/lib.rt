@@ -5,9 +5,8 @@
 use rules::BoxPlan;
 ghost use mathlib.Core.Path.{_≡_};
 ghost use Prim.Native.Nat.{_≤_, _<_};
-ghost use Rattle.rules.specs.Loop.{hasLoop};
-ghost use Rattle.layout.specs.Ends.{ringOf};
-ghost use Rattle.layout.specs.Ranks.{Low, Reached, Ended};
+ghost use Rattle.loops.specs.Track.{trackOf, loopIn};
+ghost use Rattle.loops.specs.Ranks.{Low, Reached, Ended};
 
 // A byte as an index of a list of 256.
 fn index(x: u8) -> usize
@@ -29,11 +28,13 @@ fn entries(n: u8, b: &[u8; 256]) -> [u8; 256] {
     count
 }
 
-// The boxes of 1 .. m that no segment leads to are put first in the order. The result is how many they are.
+// The boxes of 1 .. m that no segment leads to are put first in the order, where there is room for m. The result is how many.
 fn sources(m: u8, count: &[u8; 256], order: &mut [u8; 96]) -> usize
-    requires { ⌜ m ≤ 96 ⌝ }
     ensures { λ r. ⌜ r ≤ 96 ⌝ }
 {
+    if m > 96 {
+        return 0;
+    }
     let mut known: usize = 0;
     let mut number: u8 = 0;
     while number < m {
@@ -86,7 +87,6 @@ fn release(b: u8, count: &mut [u8; 256], order: &mut [u8; 96], known: usize) -> 
 
 // A rank for each box: its place in the order, and 96 for those that the order does not come to.
 fn guess(n: u8, m: u8, boxes: [BoxPlan; 96], a: &[u8; 256], b: &[u8; 256]) -> [u8; 256]
-    requires { ⌜ m ≤ 96 ⌝ }
     ensures { λ r. ⌜ Low r ⌝ }
 {
     let mut count = entries(n, b);
@@ -120,8 +120,8 @@ enum Pass {
 // One pass: along each segment in turn, the rank at its B end is raised above the one at its A end, where it is not so already.
 fn raise(n: u8, a: &[u8; 256], b: &[u8; 256], ranks: &mut [u8; 256]) -> Pass
     requires { ⌜ n ≤ 96 ⌝ }
-    requires { ⌜ Reached (ringOf n (now a) (now b)) (now ranks) ⌝ }
-    ensures { λ r. ⌜ Ended (ringOf n (now (a .entry)) (now (b .entry))) (now (ranks .entry)) (now (ranks .exit)) r ⌝ }
+    requires { ⌜ Reached (trackOf n (now a) (now b)) (now ranks) ⌝ }
+    ensures { λ r. ⌜ Ended (trackOf n (now (a .entry)) (now (b .entry))) (now (ranks .entry)) (now (ranks .exit)) r ⌝ }
 {
     let highest = n + 96;
     let mut raised = false;
@@ -145,12 +145,13 @@ fn raise(n: u8, a: &[u8; 256], b: &[u8; 256], ranks: &mut [u8; 256]) -> Pass
     Pass::Rising
 }
 
-// Code 9: some list of segments closes a loop.
-pub(crate) fn has_loop(n: u8, m: u8, boxes: [BoxPlan; 96], a: &[u8; 256], b: &[u8; 256]) -> bool
-    requires { ⌜ n ≤ 96 ⌝ }
-    requires { ⌜ m ≤ 96 ⌝ }
-    ensures { λ r. ⌜ r ≡ hasLoop (ringOf n (now (a .entry)) (now (b .entry))) ⌝ }
+// Code 9: some list of segments closes a loop; or there is room for no more segments.
+pub fn has_loop(n: u8, m: u8, boxes: [BoxPlan; 96], a: &[u8; 256], b: &[u8; 256]) -> bool
+    ensures { λ r. ⌜ r ≡ loopIn n (now (a .entry)) (now (b .entry)) ⌝ }
 {
+    if n > 96 {
+        return true;
+    }
     let mut ranks = guess(n, m, boxes, a, b);
     loop {
         let pass = raise(n, a, b, &mut ranks);

@@ -1,14 +1,14 @@
--- `ranks::raise`: the invariant is the record `Passing`, and each way through a turn or out of the loop is a law of it.
+-- `raise`: the invariant is the record `Passing`, and each way through a turn or out of the loop is a law of it.
 use Prim.Native.Nat.{_-_}
 use native.Mathlib.Omega.{arith}
 use borrow.Author.Needs.{needs}
-use Rattle.layout.specs.Ends.{ringOf}
-use Rattle.layout.proofs.Rising.{Passing, passing-start, passing-kept, passing-raised, passing-high, passed-raised, passed-rising}
-use Rattle.layout.proofs.ranks.raise.Statement.{statement}
-use Rattle.layout.proofs.ranks.raise.Tie as tie
+use Rattle.loops.specs.Track.{trackOf}
+use Rattle.loops.proofs.Rising.{Passing, passing-start, passing-kept, passing-raised, passing-high, passed-raised, passed-rising}
+use Rattle.loops.proofs.raise.Statement.{statement}
+use Rattle.loops.proofs.raise.Tie as tie
 
 abbrev Inv-loop : tie.InvT-loop
-Inv-loop n a b ranks₀ highest raised₀ s₀ ranks raised s = Passing (ringOf n a b) ranks₀ ranks raised s
+Inv-loop n a b ranks₀ highest raised₀ s₀ ranks raised s = Passing (trackOf n a b) ranks₀ ranks raised s
 
 abbrev μ-loop : tie.MeasureT-loop
 μ-loop n a b ranks₀ highest raised₀ s₀ ranks raised s = n - s

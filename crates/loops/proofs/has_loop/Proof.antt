@@ -1,14 +1,14 @@
--- `ranks::has_loop`: the ranks stay within their bound, and their sum grows with each pass that raised one.
+-- `has_loop`: the ranks stay within their bound, and their sum grows with each pass that raised one.
 use Prim.Native.Nat.{_-_}
 use borrow.Author.Needs.{needs}
-use Rattle.layout.specs.Ends.{ringOf}
-use Rattle.layout.specs.Ranks.{Reached, total}
-use Rattle.layout.proofs.Rising.{low-reached, rising-none, high-some, raised-less}
-use Rattle.layout.proofs.ranks.has_loop.Statement.{statement}
-use Rattle.layout.proofs.ranks.has_loop.Tie as tie
+use Rattle.loops.specs.Track.{trackOf}
+use Rattle.loops.specs.Ranks.{Reached, total}
+use Rattle.loops.proofs.Rising.{low-reached, too-many, rising-none, high-some, raised-less}
+use Rattle.loops.proofs.has_loop.Statement.{statement}
+use Rattle.loops.proofs.has_loop.Tie as tie
 
 abbrev Inv-loop : tie.InvT-loop
-Inv-loop n m a b ranks₀ ranks = Reached (ringOf n a b) ranks
+Inv-loop n m a b ranks₀ ranks = Reached (trackOf n a b) ranks
 
 abbrev μ-loop : tie.MeasureT-loop
 μ-loop n m a b ranks₀ ranks = 49152 - total ranks
@@ -19,6 +19,7 @@ has-loop-spec =
     (tie.spec
     Inv-loop
     μ-loop
+    (λ c. search too-many)
     (λ c κs. search needs)
     (λ c. search low-reached)
     (λ c κs. search needs)

@@ -1,10 +1,10 @@
--- `ranks::guess`: the order has at most 96 boxes, so that no rank is above 96.
+-- `guess`: the order has at most 96 boxes, so that no rank is above 96.
 use Prim.Native.Nat.{_≤_, _-_}
 use borrow.Author.Needs.{needs}
-use Rattle.layout.specs.Ranks.{Low}
-use Rattle.layout.proofs.Rising.{low-start, low-set}
-use Rattle.layout.proofs.ranks.guess.Statement.{statement}
-use Rattle.layout.proofs.ranks.guess.Tie as tie
+use Rattle.loops.specs.Ranks.{Low}
+use Rattle.loops.proofs.Rising.{low-start, low-set}
+use Rattle.loops.proofs.guess.Statement.{statement}
+use Rattle.loops.proofs.guess.Tie as tie
 
 abbrev Inv-loop : tie.InvT-loop
 Inv-loop n m a b boxes count₀ order₀ known₀ ranks₀ done₀ count order known ranks done = (known ≤ 96) × Low ranks

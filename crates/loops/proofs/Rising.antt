@@ -6,6 +6,7 @@ use mathlib.Core.Bool.{Bool, true, false, false≢true}
 use mathlib.Core.List.{List, [], _∷_, List·Memᴰ}
 use native.Mathlib.Decide.{ℕ-discrete, decLt}
 use native.Mathlib.Omega.{arith}
+use borrow.Author.Tests.{lt-ltb, le-ltb}
 use lib.ListN.{length, getD, set, replicate, length-set, length-replicate}
 use lib.Seq.{getD-set-same, getD-set-other, set-out}
 use Rattle.rules.specs.declared.Segment.{Segment}
@@ -15,10 +16,10 @@ use Rattle.rules.specs.Track.{noSegment, segmentAt, endA, endB}
 use Rattle.rules.specs.Loop.{SegmentOf, chainEnds, hasLoop}
 use Rattle.rules.proofs.Rows.{nth-at, list-at}
 use Rattle.rules.proofs.Loop.{segment-ends, box-follows, ends-more, ends-loop, rising-no-loop}
-use Rattle.layout.specs.Ends.{endsIn, ringOf}
-use Rattle.layout.specs.Ranks.{Low, Reached, total, told, Ended}
-use Rattle.layout.specs.declared.ranks.Pass.{Pass}
-use Rattle.layout.specs.declared.ranks.Pass.the-variants.{Rising, Raised, TooHigh}
+use Rattle.loops.specs.Track.{endsIn, trackOf, loopIn}
+use Rattle.loops.specs.Ranks.{Low, Reached, total, told, Ended}
+use Rattle.loops.specs.declared.Pass.{Pass}
+use Rattle.loops.specs.declared.Pass.the-variants.{Rising, Raised, TooHigh}
 
 -- A number of a list after a store: the one stored, at its place, or the old one.
 set-cases : (l : List ℕ) (i v x : ℕ) → ((x ≡ i) × (getD (set l i v) x 0 ≡ v)) ⊎ (getD (set l i v) x 0 ≡ getD l x 0)
@@ -114,38 +115,38 @@ pub record Passing (t : Table) (before after : List ℕ) (raised : Bool) (i : �
 
 -- The ends of the segment at index i, from the columns.
 module _ (n : ℕ) (a b : List ℕ) (i : ℕ) (h : i < 96) where
-  ring-at : nth (listOf 96 (endsIn a b)) (i + 1) noSegment ≡ endsIn a b (i + 1)
-  ring-at = nth-at _ i noSegment ∙ list-at (endsIn a b) 96 i noSegment h
+  track-at : nth (listOf 96 (endsIn a b)) (i + 1) noSegment ≡ endsIn a b (i + 1)
+  track-at = nth-at _ i noSegment ∙ list-at (endsIn a b) 96 i noSegment h
 
-  ring-a : endA (ringOf n a b) (i + 1) ≡ getD a (i + 1) 0
+  track-a : endA (trackOf n a b) (i + 1) ≡ getD a (i + 1) 0
   unfolding endA segmentAt
-  ring-a = ap (λ (s : Segment). s .a) ring-at
+  track-a = ap (λ (s : Segment). s .a) track-at
 
-  ring-b : endB (ringOf n a b) (i + 1) ≡ getD b (i + 1) 0
+  track-b : endB (trackOf n a b) (i + 1) ≡ getD b (i + 1) 0
   unfolding endB segmentAt
-  ring-b = ap (λ (s : Segment). s .b) ring-at
+  track-b = ap (λ (s : Segment). s .b) track-at
 
 -- The start of a pass; a segment along which the ranks rise, one along which a rank is raised, one whose A end is too high; and
 -- the end of a pass that raised some rank, and of one that raised none.
 module _ (n : ℕ) (few : n ≤ 96) (a b l : List ℕ) where
-  abbrev ring : Table
-  ring = ringOf n a b
+  abbrev track : Table
+  track = trackOf n a b
 
-  pub passing-start : Reached ring l → Passing ring l l false 0
+  pub passing-start : Reached track l → Passing track l l false 0
   unfolding steps
   passing-start h =
       record { within = omega arith; reached = h; grown = omega arith; rising = λ e s a b. absurd (omega arith) }
 
-  module _ (now : List ℕ) (f : Bool) (i : ℕ) (p : Passing ring l now f i) where
+  module _ (now : List ℕ) (f : Bool) (i : ℕ) (p : Passing track l now f i) where
     -- Boxes x and y are those at its ends.
     module _ (x y : ℕ) (at-a : x ≡ getD a (i + 1) 0) (at-b : y ≡ getD b (i + 1) 0) (h : i < n) where
-      here-a : endA ring (i + 1) ≡ x
-      here-a = ring-a n a b i (omega arith) ∙ sym at-a
+      here-a : endA track (i + 1) ≡ x
+      here-a = track-a n a b i (omega arith) ∙ sym at-a
 
-      here-b : endB ring (i + 1) ≡ y
-      here-b = ring-b n a b i (omega arith) ∙ sym at-b
+      here-b : endB track (i + 1) ≡ y
+      here-b = track-b n a b i (omega arith) ∙ sym at-b
 
-      pub passing-kept : getD now x 0 < getD now y 0 → Passing ring l now f (i + 1)
+      pub passing-kept : getD now x 0 < getD now y 0 → Passing track l now f (i + 1)
       passing-kept k =
           record {
             within = omega arith;
@@ -159,10 +160,10 @@ module _ (n : ℕ) (few : n ≤ 96) (a b l : List ℕ) where
           }
 
       pub passing-raised : y < 256 → getD now y 0 ≤ getD now x 0 → getD now x 0 < n + 96
-          → Passing ring l (set now y (getD now x 0 + 1)) true (i + 1)
+          → Passing track l (set now y (getD now x 0 + 1)) true (i + 1)
       unfolding steps
       passing-raised w k u =
-          let r = reached-raised ring now (i + 1) (p .reached) (number ring i h) (rw here-a u) in
+          let r = reached-raised track now (i + 1) (p .reached) (number track i h) (rw here-a u) in
           record {
             within = omega arith;
             reached = rw (here-a, here-b) at r;
@@ -170,37 +171,43 @@ module _ (n : ℕ) (few : n ≤ 96) (a b l : List ℕ) where
             rising = λ e. absurd (false≢true (sym e));
           }
 
-      pub passing-high : n + 96 ≤ getD now x 0 → Ended ring l now TooHigh
+      pub passing-high : n + 96 ≤ getD now x 0 → Ended track l now TooHigh
       unfolding told
       passing-high u =
-          record { reached = p .reached; tells = high-loop ring now (i + 1) (p .reached) (number ring i h) (rw here-a u) }
+          record { reached = p .reached; tells = high-loop track now (i + 1) (p .reached) (number track i h) (rw here-a u) }
 
-    pub passed-raised : f ≡ true → Ended ring l now Raised
+    pub passed-raised : f ≡ true → Ended track l now Raised
     unfolding told steps
     passed-raised e = let g = rw e at (p .grown) in record { reached = p .reached; tells = omega arith }
 
-    pub passed-rising : f ≡ false → n ≤ i → Ended ring l now Rising
+    pub passed-rising : f ≡ false → n ≤ i → Ended track l now Rising
     unfolding told
     passed-rising e h =
         record {
           reached = p .reached;
-          tells = rising-no-loop ring (λ x. getD now x 0) (λ s k. p .rising e s (k .low) (omega arith));
+          tells = rising-no-loop track (λ x. getD now x 0) (λ s k. p .rising e s (k .low) (omega arith));
         }
 
--- What the end of a pass says of loops; and what is left of the sum that ranks can have, which is less after each pass that
--- raised one.
+-- The sum that ranks can have.
 reached-total : (t : Table) (l : List ℕ) → t .n ≤ 96 → Reached t l → total l ≤ 49152
 reached-total t l n h = omega (arith, total-bounded 192 l (λ x. omega (arith, h .bounded x)))
 
-module _ (t : Table) (before after : List ℕ) (pass : Pass) (h : Ended t before after pass) where
-  pub rising-none : pass ≡ Rising → false ≡ hasLoop t
-  unfolding told
-  rising-none e = let k = rw e at (h .tells) in sym k
+-- More segments than there is room for; what the end of a pass says of loops; and what is left of the sum that ranks can have,
+-- which is less after each pass that raised one.
+module _ (n : ℕ) (a b : List ℕ) where
+  pub too-many : 96 < n → true ≡ loopIn n a b
+  unfolding loopIn
+  too-many h = rw (lt-ltb 96 n h)
 
-  pub high-some : pass ≡ TooHigh → true ≡ hasLoop t
-  unfolding told
-  high-some e = let k = rw e at (h .tells) in sym k
+  module _ (before after : List ℕ) (pass : Pass) (h : Ended (trackOf n a b) before after pass) (few : n ≤ 96) where
+    pub rising-none : pass ≡ Rising → false ≡ loopIn n a b
+    unfolding told loopIn
+    rising-none e = let k = rw e at (h .tells) in rw (le-ltb 96 n few) (sym k)
 
-  pub raised-less : pass ≡ Raised → t .n ≤ 96 → 49152 - total after < 49152 - total before
-  unfolding told
-  raised-less e n = let k = rw e at (h .tells) in omega (arith, reached-total t after n (h .reached))
+    pub high-some : pass ≡ TooHigh → true ≡ loopIn n a b
+    unfolding told loopIn
+    high-some e = let k = rw e at (h .tells) in rw (le-ltb 96 n few) (sym k)
+
+    pub raised-less : pass ≡ Raised → 49152 - total after < 49152 - total before
+    unfolding told
+    raised-less e = let k = rw e at (h .tells) in omega (arith, reached-total (trackOf n a b) after few (h .reached))

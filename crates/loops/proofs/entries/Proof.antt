@@ -1,8 +1,8 @@
--- `ranks::entries` is safe and ends.
+-- `entries` is safe and ends.
 use Prim.Native.Nat.{_≤_, _-_}
 use borrow.Author.Needs.{needs}
-use Rattle.layout.proofs.ranks.entries.Statement.{statement}
-use Rattle.layout.proofs.ranks.entries.Tie as tie
+use Rattle.loops.proofs.entries.Statement.{statement}
+use Rattle.loops.proofs.entries.Tie as tie
 
 abbrev Inv-loop : tie.InvT-loop
 Inv-loop n b count₀ s₀ count s = s ≤ n

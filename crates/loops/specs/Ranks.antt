@@ -7,8 +7,8 @@ use lib.ListN.{length, getD}
 use Rattle.rules.specs.declared.Table.{Table}
 use Rattle.rules.specs.Track.{endB}
 use Rattle.rules.specs.Loop.{chainEnds, hasLoop}
-use Rattle.layout.specs.declared.ranks.Pass.{Pass}
-use Rattle.layout.specs.declared.ranks.Pass.the-variants.{Rising, Raised, TooHigh}
+use Rattle.loops.specs.declared.Pass.{Pass}
+use Rattle.loops.specs.declared.Pass.the-variants.{Rising, Raised, TooHigh}
 
 -- Guessed ranks: none is above 96.
 pub record Low (ranks : List ℕ) : Type 0 where

@@ -1,8 +1,8 @@
--- `ranks::sources`: the order has at most as many boxes as were looked at.
+-- `sources`: the order has at most as many boxes as were looked at.
 use Prim.Native.Nat.{_≤_, _-_}
 use borrow.Author.Needs.{needs}
-use Rattle.layout.proofs.ranks.sources.Statement.{statement}
-use Rattle.layout.proofs.ranks.sources.Tie as tie
+use Rattle.loops.proofs.sources.Statement.{statement}
+use Rattle.loops.proofs.sources.Tie as tie
 
 abbrev Inv-loop : tie.InvT-loop
 Inv-loop m count order₀ known₀ number₀ order known number = (known ≤ number) × (number ≤ m)
@@ -16,6 +16,7 @@ sources-spec =
     (tie.spec
     Inv-loop
     μ-loop
+    (λ c. search needs)
     (λ c. search needs)
     (λ c. search needs)
     (λ c. search needs)

@@ -1,0 +1,2 @@
+-- A pass that raises ranks, and what its end says of loops.
+pub mod Rising

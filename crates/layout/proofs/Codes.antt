@@ -31,7 +31,7 @@ module _ (version n m k : ℕ) where
         let (ends, (plans, (listing, (loop, _)))) = simp first-zero-iff at e in
         sym (first-skip _ _ _ ends (first-skip _ _ _ plans (first-skip _ _ _ listing (first-skip _ _ _ loop refl))))
 
-    -- The code of the head, of the network and of the trains is the table's, where those before it are 0.
+    -- The code of the head, of the network and of the trains is the code of all parts, where those before it are 0.
     pub head-counts : (h : ℕ) → h ≡ first (headRows version n m k) → (h ≡ 0 → ⊥) → h ≡ partsCode version n m k boxes trains routes a b
     unfolding partsCode
     head-counts h e z = e ∙ first-before _ _ (λ y. z (e ∙ y))

@@ -1,4 +1,4 @@
-// Whether a table record is accepted: codes 3, 4 and 6 to 12, by the definition `tableCode` of `rules`.
+// Whether a table record is accepted: codes 3, 4 and 6 to 12, by the definition `tableCode` of `rules`. `loops` has code 9.
 pub mod network;
 pub mod placing;
 

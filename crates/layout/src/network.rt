@@ -22,7 +22,7 @@ pub(crate) fn outside(n: u8, x: u8) -> bool
     x > n
 }
 
-// The box at the far end of each segment in direction d, by the segment's number: B ends for 0, A ends for 1.
+// The box at the far end of each segment in direction d, by the segment's number: B ends for 0, A ends for any other.
 pub fn far_boxes(segments: [Segment; 96], d: u8) -> [u8; 256]
     ensures { λ r. ⌜ r ≡ column (farEnd segments d) ⌝ }
 {

@@ -47,11 +47,11 @@ fn sources(m: u8, count: &[u8; 256], order: &mut [u8; 96]) -> usize
     known
 }
 
-// The index of the record numbered s; 0 where there is none.
-fn place(s: u8) -> usize
+// The index of the box with this number; 0 where there is none.
+fn place(number: u8) -> usize
     ensures { λ r. ⌜ r < 96 ⌝ }
 {
-    let i = std::num::wrapping_sub_u8(s, 1) as usize;
+    let i = std::num::wrapping_sub_u8(number, 1) as usize;
     if i < 96 {
         return i;
     }

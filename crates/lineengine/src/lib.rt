@@ -1,0 +1,67 @@
+// The line engine for units programmed in C or Rust: functions on numbers and lent bytes, in a static library. Each takes any
+// bytes, keeps nothing between calls and asks nothing of its caller but what the language asks of references. The header for C
+// is embedding/lineengine.h.
+ghost use mathlib.Core.Path.{_≡_};
+ghost use Rattle.rules.specs.File.{fileCode};
+ghost use Rattle.rules.specs.Record.{checkedStep};
+ghost use Rattle.rules.specs.Run.{run, answered, SafeRun};
+ghost use Rattle.rules.specs.Printout.{printCode, printLength, printedText, printedAnswers};
+ghost use Rattle.lineengine.specs.WriteBack.{writeBackCode, writtenBack};
+
+// The code of a table file: 0, or the first of 1 to 12 that refuses it.
+#[no_mangle]
+pub extern "C" fn lineengine_check(table: &[u8]) -> u8
+    ensures { λ r. ⌜ r ≡ fileCode (now (table .entry)) ⌝ }
+{
+    let outcome = reading::read(table);
+    outcome.code
+}
+
+// Runs a table file and all its steps, three bytes each, and puts the code of each step into the lent buffer. The code is the
+// file's, then 26 where the buffer is shorter than the answers; with any code but 0 the buffer is as it was. Demand 3 holds of
+// what was answered and of the line to which the steps led.
+#[no_mangle]
+pub extern "C" fn lineengine_run(table: &[u8], steps: &[u8], answers: &mut [u8]) -> u8
+    ensures { λ r. ⌜ r ≡ run checkedStep (now (table .entry)) (now (steps .entry)) (now (answers .entry)) .code ⌝ }
+    ensures { λ r. ⌜ now (answers .exit) ≡ answered checkedStep (now (table .entry)) (now (steps .entry)) (now (answers .entry)) ⌝ }
+    ensures { λ r. ⌜ (r ≡ 0 → SafeRun (now (table .entry)) (now (steps .entry)) (run checkedStep (now (table .entry)) (now (steps .entry)) (now (answers .entry)) .line) (now (answers .entry)) (now (answers .exit))) ⌝ }
+{
+    let outcome = engine::run(table, steps, answers);
+    outcome.code
+}
+
+// The printout of a table file and an input, at the front of the lent text, its length, and the codes of the steps in the
+// answers. With code 26, where a buffer is too short, both are as they were and the length is 0. A refused table prints its code.
+#[no_mangle]
+pub extern "C" fn lineengine_print(
+    table: &[u8],
+    input: &[u8],
+    answers: &mut [u8],
+    text: &mut [u8],
+    size: &mut usize,
+) -> u8
+    ensures { λ r. ⌜ r ≡ printCode (now (input .entry)) (now (answers .entry)) (now (text .entry)) ⌝ }
+    ensures { λ r. ⌜ now (size .exit) ≡ printLength (now (table .entry)) (now (input .entry)) (now (answers .entry)) (now (text .entry)) ⌝ }
+    ensures { λ r. ⌜ now (text .exit) ≡ printedText (now (table .entry)) (now (input .entry)) (now (answers .entry)) (now (text .entry)) ⌝ }
+    ensures { λ r. ⌜ now (answers .exit) ≡ printedAnswers (now (table .entry)) (now (input .entry)) (now (answers .entry)) (now (text .entry)) ⌝ }
+{
+    let printed = printout::print(table, input, answers, text);
+    *size = printed.length;
+    printed.code
+}
+
+// Reads a table file and writes its table to the front of the lent buffer: the bytes of the file. The code is the file's, then 26
+// where the buffer is shorter than the file; with any code but 0 the buffer is as it was.
+#[no_mangle]
+pub extern "C" fn lineengine_write_back(table: &[u8], buffer: &mut [u8]) -> u8
+    ensures { λ r. ⌜ r ≡ writeBackCode (now (table .entry)) (now (buffer .entry)) ⌝ }
+    ensures { λ r. ⌜ now (buffer .exit) ≡ writtenBack (now (table .entry)) (now (buffer .entry)) ⌝ }
+{
+    let outcome = reading::read(table);
+    if outcome.code != 0 {
+        return outcome.code;
+    }
+    let line = outcome.line;
+    let plan = line.table;
+    writing::write(plan, buffer)
+}

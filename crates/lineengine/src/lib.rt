@@ -13,8 +13,8 @@ ghost use Rattle.lineengine.specs.WriteBack.{writeBackCode, writtenBack}
 pub extern "C" fn lineengine_check(table: &[u8]) -> u8
     ensures { λ r. ⌜ r ≡ fileCode (now (table .entry)) ⌝ }
 {
-    let outcome = reading::read(table);
-    outcome.code
+    let checked = reading::read(table);
+    checked.code
 }
 
 // Runs a table file and all its steps, three bytes each, and puts the code of each step into the lent buffer. The code is the
@@ -26,8 +26,8 @@ pub extern "C" fn lineengine_run(table: &[u8], steps: &[u8], answers: &mut [u8])
     ensures { λ r. ⌜ now (answers .exit) ≡ answered checkedStep (now (table .entry)) (now (steps .entry)) (now (answers .entry)) ⌝ }
     ensures { λ r. ⌜ (r ≡ 0 → SafeRun (now (table .entry)) (now (steps .entry)) (run checkedStep (now (table .entry)) (now (steps .entry)) (now (answers .entry)) .line) (now (answers .entry)) (now (answers .exit))) ⌝ }
 {
-    let outcome = engine::run(table, steps, answers);
-    outcome.code
+    let ran = engine::run(table, steps, answers);
+    ran.code
 }
 
 // The printout of a table file and an input, at the front of the lent text, its length, and the codes of the steps in the

@@ -1,0 +1,74 @@
+/*
+ * The line engine from C, on the folder of a sample: its table is checked, its steps are run and printed, and the table is written
+ * back. Then a table with one byte changed and buffers that are too short are refused. Argument: the folder.
+ */
+#include "lineengine.h"
+
+#include <stdio.h>
+#include <string.h>
+
+/* The longest list of steps that this program takes. */
+#define MOST_STEPS 1000
+
+static uint8_t table[LINEENGINE_MOST_TABLE + 1], back[LINEENGINE_MOST_TABLE + 1];
+static uint8_t steps[3 * MOST_STEPS], answers[MOST_STEPS];
+static uint8_t text[LINEENGINE_TEXT_ROOM(MOST_STEPS)];
+
+/* Reads a file of the folder; what does not fit is left out. */
+static size_t load(const char *folder, const char *name, uint8_t *bytes, size_t room)
+{
+    char path[4096];
+    snprintf(path, sizeof path, "%s/%s", folder, name);
+    FILE *file = fopen(path, "rb");
+    if (file == NULL)
+        return 0;
+    size_t length = fread(bytes, 1, room, file);
+    fclose(file);
+    return length;
+}
+
+static void run_and_print(size_t table_length, size_t steps_length)
+{
+    size_t count = LINEENGINE_STEPS(steps_length), text_length;
+    printf("run: %d\n", lineengine_run(table, table_length, steps, steps_length, answers, count));
+    printf("codes:");
+    for (size_t i = 0; i < count; i++)
+        printf(" %d", answers[i]);
+    printf("\nprint: %d\n", lineengine_print(table, table_length, steps, steps_length, answers, count,
+                                             text, LINEENGINE_TEXT_ROOM(count), &text_length));
+    fwrite(text, 1, text_length, stdout);
+}
+
+static void write_back(size_t table_length)
+{
+    printf("write back: %d\n", lineengine_write_back(table, table_length, back, table_length));
+    printf("same bytes: %s\n", memcmp(table, back, table_length) == 0 ? "yes" : "no");
+}
+
+/* Refusals leave every buffer as it was. */
+static void refusals(size_t table_length, size_t steps_length)
+{
+    size_t count = LINEENGINE_STEPS(steps_length);
+    memset(answers, 99, count);
+    printf("answers too short: %d\n", lineengine_run(table, table_length, steps, steps_length, answers, count - 1));
+    printf("buffer too short: %d\n", lineengine_write_back(table, table_length, back, table_length - 1));
+    table[table_length - 1] ^= 4;
+    printf("last byte changed: %d\n", lineengine_check(table, table_length));
+    printf("run: %d\n", lineengine_run(table, table_length, steps, steps_length, answers, count));
+    printf("first answer still: %d\n", answers[0]);
+}
+
+int main(int argc, char **argv)
+{
+    const char *folder = argc > 1 ? argv[1] : ".";
+    size_t table_length = load(folder, "net", table, sizeof table);
+    size_t steps_length = load(folder, "steps", steps, sizeof steps);
+    uint8_t code = lineengine_check(table, table_length);
+    printf("check: %d\n", code);
+    if (code != LINEENGINE_ACCEPTED || steps_length == 0)
+        return 1;
+    run_and_print(table_length, steps_length);
+    write_back(table_length);
+    refusals(table_length, steps_length);
+    return 0;
+}

@@ -1,0 +1,108 @@
+//! The proved line engine for Rust: the four functions of the static library, with their codes as results.
+//!
+//! The library asks nothing of its caller but what borrowing already gives (slices that are there, and no overlap of what is
+//! written with anything else), so that nothing has to be tested before a call. The order of refusals is the library's:
+//! the table's code first, then 26, except in `print`, where 26 is all that is refused.
+//!
+//! ```
+//! let table = [0x4E, 0x45, 0x54, 0, 1, 1, 2, 0, 1, 2, 0, 1, 0, 0, 0, 0, 1, 0, 0, 0];
+//! let mut answers = [0; 2];
+//! assert_eq!(lineengine::run(&table, &[1, 1, 1, 7, 0, 0], &mut answers), Ok(&[14, 13][..]));
+//! assert_eq!(lineengine::check(&table[..19]), Err(lineengine::Refusal::Table(5)));
+//! ```
+
+pub mod raw;
+mod refusal;
+
+pub use refusal::{Buffer, Refusal};
+
+/// The most bytes of a table that is accepted.
+pub const MOST_TABLE: usize = 1_736;
+
+/// The most steps that `print` takes; `run` takes any number.
+pub const MOST_PRINTED_STEPS: usize = 65_535;
+
+/// How many steps so many bytes are; a last one of one or two bytes counts.
+pub const fn steps_in(bytes: usize) -> usize {
+    bytes.div_ceil(3)
+}
+
+/// How many of them `print` takes.
+pub const fn printed_steps_in(bytes: usize) -> usize {
+    match steps_in(bytes) {
+        steps if steps < MOST_PRINTED_STEPS => steps,
+        _ => MOST_PRINTED_STEPS,
+    }
+}
+
+/// The room that `print` asks of the text of so many printed steps, however short it then is.
+pub const fn text_room(steps: usize) -> usize {
+    18 * (steps + 113)
+}
+
+/// Whether the table is accepted.
+pub fn check(table: &[u8]) -> Result<(), Refusal> {
+    // SAFETY: the function reads the slice and nothing else.
+    match unsafe { raw::lineengine_check(table.as_ptr(), table.len()) } {
+        0 => Ok(()),
+        code => Err(Refusal::Table(code)),
+    }
+}
+
+/// Runs the steps from the start of the table's line on. The codes of the steps, which stand at the front of `answers`.
+pub fn run<'a>(table: &[u8], steps: &[u8], answers: &'a mut [u8]) -> Result<&'a [u8], Refusal> {
+    let (needed, room) = (steps_in(steps.len()), answers.len());
+    // SAFETY: the function reads both slices and writes within `answers`, which overlaps neither.
+    let code = unsafe {
+        raw::lineengine_run(table.as_ptr(), table.len(), steps.as_ptr(), steps.len(), answers.as_mut_ptr(), room)
+    };
+    match code {
+        0 => Ok(&answers[..needed]),
+        26 => Err(Refusal::TooShort { buffer: Buffer::Answers, needed, room }),
+        code => Err(Refusal::Table(code)),
+    }
+}
+
+/// The printout of a run, which stands at the front of `text`; the codes of its steps stand at the front of `answers`. A refused
+/// table prints its code.
+pub fn print<'a>(table: &[u8], input: &[u8], answers: &mut [u8], text: &'a mut [u8]) -> Result<&'a [u8], Refusal> {
+    let mut length = 0;
+    // SAFETY: the function reads `table` and `input` and writes within `answers`, `text` and `length`, of which no two overlap.
+    let code = unsafe {
+        raw::lineengine_print(
+            table.as_ptr(),
+            table.len(),
+            input.as_ptr(),
+            input.len(),
+            answers.as_mut_ptr(),
+            answers.len(),
+            text.as_mut_ptr(),
+            text.len(),
+            &mut length,
+        )
+    };
+    match code {
+        0 => Ok(&text[..length]),
+        _ => Err(too_short_to_print(input, answers, text)),
+    }
+}
+
+/// Which buffer of `print` is too short.
+fn too_short_to_print(input: &[u8], answers: &[u8], text: &[u8]) -> Refusal {
+    let needed = printed_steps_in(input.len());
+    match answers.len() {
+        room if room < needed => Refusal::TooShort { buffer: Buffer::Answers, needed, room },
+        _ => Refusal::TooShort { buffer: Buffer::Text, needed: text_room(needed), room: text.len() },
+    }
+}
+
+/// Reads the table and writes it out again. The bytes that were read, which stand at the front of `buffer`.
+pub fn write_back<'a>(table: &[u8], buffer: &'a mut [u8]) -> Result<&'a [u8], Refusal> {
+    let (needed, room) = (table.len(), buffer.len());
+    // SAFETY: the function reads `table` and writes within `buffer`, which does not overlap it.
+    match unsafe { raw::lineengine_write_back(table.as_ptr(), needed, buffer.as_mut_ptr(), room) } {
+        0 => Ok(&buffer[..needed]),
+        26 => Err(Refusal::TooShort { buffer: Buffer::Table, needed, room }),
+        code => Err(Refusal::Table(code)),
+    }
+}

@@ -1,0 +1,30 @@
+//! The functions of the proved library as C sees them, by the contracts in crates/lineengine/src/lib.rt. They take any bytes; what
+//! is asked of pointers is what Rust asks of references.
+
+#[link(name = "lineengine", kind = "static")]
+extern "C" {
+    pub fn lineengine_check(table: *const u8, table_length: usize) -> u8;
+
+    pub fn lineengine_run(
+        table: *const u8,
+        table_length: usize,
+        steps: *const u8,
+        steps_length: usize,
+        answers: *mut u8,
+        answers_room: usize,
+    ) -> u8;
+
+    pub fn lineengine_print(
+        table: *const u8,
+        table_length: usize,
+        input: *const u8,
+        input_length: usize,
+        answers: *mut u8,
+        answers_room: usize,
+        text: *mut u8,
+        text_room: usize,
+        text_length: *mut usize,
+    ) -> u8;
+
+    pub fn lineengine_write_back(table: *const u8, table_length: usize, buffer: *mut u8, buffer_room: usize) -> u8;
+}

@@ -1,0 +1,71 @@
+//! What was compared, and how often it differed.
+
+/// How many differences are shown.
+const SHOWN: usize = 5;
+
+#[derive(Default)]
+pub struct Counts {
+    /// Calls of check, run, print and write back, by the raw functions and by the wrapper.
+    pub calls: [usize; 4],
+    /// Codes of the files, and of the steps of runs with an accepted file, one for each case.
+    pub file_codes: [usize; 13],
+    pub step_codes: [usize; 28],
+    /// Calls that were answered 26.
+    pub too_short: [usize; 4],
+    pub cases: usize,
+    pub cut_short: usize,
+    pub differences: usize,
+}
+
+impl Counts {
+    /// Counts a case.
+    pub fn case(&mut self, codes: &Result<Vec<u8>, u8>, steps: &[u8]) {
+        self.cases += 1;
+        match codes {
+            Err(code) => self.file_codes[*code as usize] += 1,
+            Ok(codes) => {
+                self.file_codes[0] += 1;
+                self.cut_short += usize::from(steps.len() % 3 != 0);
+                codes.iter().for_each(|&code| self.step_codes[code as usize] += 1);
+            }
+        }
+    }
+
+    /// Counts a call, and its difference where what was given is not what was expected.
+    pub fn call(&mut self, function: Function, code: u8, same: bool, what: impl Fn() -> String) {
+        self.calls[function as usize] += 1;
+        self.too_short[function as usize] += usize::from(code == 26);
+        if !same {
+            self.differences += 1;
+            if self.differences <= SHOWN {
+                println!("{function:?} differs: {}", what());
+            }
+        }
+    }
+
+    pub fn print(&self) {
+        println!("{} cases, {} of them with a last step cut short on an accepted table", self.cases, self.cut_short);
+        println!("function    calls  answered 26");
+        for function in [Function::Check, Function::Run, Function::Print, Function::WriteBack] {
+            let name = format!("{function:?}");
+            println!("{name:9} {:7} {:12}", self.calls[function as usize], self.too_short[function as usize]);
+        }
+        println!("code  files");
+        for (code, count) in self.file_codes.iter().enumerate() {
+            println!("{code:4} {count:8}");
+        }
+        println!("code  steps");
+        for code in std::iter::once(0).chain(13..=25) {
+            println!("{code:4} {:8}", self.step_codes[code]);
+        }
+        println!("{} differences", self.differences);
+    }
+}
+
+#[derive(Clone, Copy, Debug)]
+pub enum Function {
+    Check,
+    Run,
+    Print,
+    WriteBack,
+}

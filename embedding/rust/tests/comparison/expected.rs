@@ -1,0 +1,64 @@
+//! What the second implementation gives, as the library's contracts say it: codes, and the whole of each lent buffer.
+
+use reference::line::start_line;
+use reference::printout::{printout, MAX_STEPS};
+use reference::step::step;
+use reference::table_read::read_table;
+use reference::table_write::write_table;
+
+/// A code and the buffer after the call.
+pub type Answer = (u8, Vec<u8>);
+
+/// The code of a file.
+pub fn file_code(file: &[u8]) -> u8 {
+    read_table(file).err().unwrap_or(0)
+}
+
+/// The codes of all steps, a last one cut short among them; or the file's code.
+pub fn step_codes(file: &[u8], steps: &[u8]) -> Result<Vec<u8>, u8> {
+    let mut line = start_line(&read_table(file)?);
+    Ok(steps
+        .chunks(3)
+        .map(|bytes| match bytes {
+            &[kind, train, number] => step(&mut line, [kind, train, number]),
+            _ => 13,
+        })
+        .collect())
+}
+
+/// A run whose codes are known.
+pub fn run(codes: &Result<Vec<u8>, u8>, answers: &[u8]) -> Answer {
+    match codes {
+        Err(code) => (*code, answers.to_vec()),
+        Ok(codes) if answers.len() < codes.len() => (26, answers.to_vec()),
+        Ok(codes) => (0, over(codes, answers)),
+    }
+}
+
+/// A printout: its code and length, the text's buffer and the buffer of the answers.
+pub fn print(file: &[u8], input: &[u8], answers: &[u8], text: &[u8]) -> (u8, usize, Vec<u8>, Vec<u8>) {
+    let steps = input.len().div_ceil(3).min(MAX_STEPS);
+    if answers.len() < steps || text.len() < 18 * (steps + 113) {
+        return (26, 0, text.to_vec(), answers.to_vec());
+    }
+    let taken = &input[..input.len().min(3 * MAX_STEPS)];
+    let printed = printout(file, input);
+    let (_, told) = run(&step_codes(file, taken), answers);
+    (0, printed.len(), over(&printed, text), told)
+}
+
+/// A file read and written back: what the second implementation writes of the table that it read.
+pub fn write_back(file: &[u8], buffer: &[u8]) -> Answer {
+    let mut after = buffer.to_vec();
+    match read_table(file).and_then(|table| write_table(&table, &mut after)) {
+        Ok(_) => (0, after),
+        Err(code) => (code, after),
+    }
+}
+
+/// A buffer with these bytes at its front.
+fn over(front: &[u8], buffer: &[u8]) -> Vec<u8> {
+    let mut after = buffer.to_vec();
+    after[..front.len()].copy_from_slice(front);
+    after
+}

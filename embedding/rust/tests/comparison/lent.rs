@@ -1,0 +1,40 @@
+//! Memory that is lent to the library: a part of a larger one, whose margins are watched.
+
+use reference::generate::prng::Prng;
+
+const MARGIN: usize = 24;
+
+/// Bytes of any content, of which the middle is lent.
+pub struct Lent {
+    bytes: Vec<u8>,
+    room: usize,
+    margins: Vec<u8>,
+}
+
+impl Lent {
+    pub fn new(rng: &mut Prng, room: usize) -> Lent {
+        let bytes: Vec<u8> = (0..room + 2 * MARGIN).map(|_| rng.byte()).collect();
+        let mut lent = Lent { bytes, room, margins: Vec::new() };
+        lent.margins = lent.outside();
+        lent
+    }
+
+    /// What is lent.
+    pub fn part(&mut self) -> &mut [u8] {
+        &mut self.bytes[MARGIN..MARGIN + self.room]
+    }
+
+    /// What is lent, as it stands.
+    pub fn content(&self) -> &[u8] {
+        &self.bytes[MARGIN..MARGIN + self.room]
+    }
+
+    /// Whether nothing was written beside it.
+    pub fn kept(&self) -> bool {
+        self.outside() == self.margins
+    }
+
+    fn outside(&self) -> Vec<u8> {
+        [&self.bytes[..MARGIN], &self.bytes[MARGIN + self.room..]].concat()
+    }
+}

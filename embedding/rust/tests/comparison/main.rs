@@ -1,0 +1,101 @@
+//! Compares the proved library with the second implementation, through its C interface and the wrapper, on generated tables and
+//! steps and on files damaged from them. Prints counts and the number of differences; exit status 1 where there are any.
+//! Arguments: seed, number of tables.
+
+mod calls;
+mod counts;
+mod expected;
+mod lent;
+
+use calls::Case;
+use counts::Counts;
+use reference::argument::argument;
+use reference::generate::damage::damaged_file;
+use reference::generate::prng::Prng;
+use reference::generate::steps::{drive, step_bytes};
+use reference::generate::tables::{accepted_table, largest_table};
+use reference::line::start_line;
+use reference::printout::MAX_STEPS;
+use reference::table::Table;
+use reference::table_read::read_table;
+use reference::table_write::file_bytes;
+
+const S: &[u8] = include_bytes!("../../../../samples/s/net");
+const S_STEPS: &[u8] = include_bytes!("../../../../samples/s/steps");
+/// Ways of damaging a file.
+const AIMS: u64 = 21;
+
+fn main() {
+    let (seed, tables) = (argument(1, 1), argument(2, 200));
+    let mut counts = Counts::default();
+    short_and_long_files(seed, &mut counts);
+    limits(seed, &mut counts);
+    for case in 0..tables {
+        table(seed, case, &mut counts);
+    }
+    println!("seed {seed}: {tables} tables");
+    counts.print();
+    if counts.differences > 0 {
+        std::process::exit(1)
+    }
+}
+
+/// A generated table with a list of steps, the file as its own steps, and files damaged from it.
+fn table(seed: u64, case: u64, counts: &mut Counts) {
+    let mut rng = Prng::for_case(seed, case);
+    let table = match case % 10 {
+        9 => largest_table(&mut rng),
+        _ => accepted_table(&mut rng),
+    };
+    let count = match case % 100 {
+        0..=29 => rng.below(6),
+        99 => rng.between(2_000, 20_000),
+        _ => rng.between(6, 600),
+    };
+    let mut steps = driven(&mut rng, &table, count);
+    steps.truncate(steps.len().saturating_sub(rng.pick(&[0, 0, 1, 2])));
+    let file = file_bytes(&table);
+    Case::new(&file, &steps).compare(&mut rng, counts);
+    Case::new(&file, &file).compare(&mut rng, counts);
+    steps.truncate(rng.below(40));
+    for aim in [case % AIMS, (case + 7) % AIMS, (case + 14) % AIMS] {
+        let damaged = damaged_file(&mut rng, &table, aim as u8);
+        Case::new(&damaged, &steps).compare(&mut rng, counts);
+    }
+}
+
+/// Every front part of table S and of its steps, table S with bytes after it, long files.
+fn short_and_long_files(seed: u64, counts: &mut Counts) {
+    let mut rng = Prng::for_case(seed, u64::MAX);
+    for length in 0..=S.len() {
+        Case::new(&S[..length], S_STEPS).compare(&mut rng, counts);
+    }
+    for length in 0..=S_STEPS.len() {
+        Case::new(S, &S_STEPS[..length]).compare(&mut rng, counts);
+    }
+    for length in [47, 1_736, 1_737, 4_791, 4_792, 4_793, 100_000] {
+        let mut longer = S.to_vec();
+        longer.resize(length, 0);
+        Case::new(&longer, S_STEPS).compare(&mut rng, counts);
+    }
+    Case::new(&vec![0xFF; 100_000], S_STEPS).compare(&mut rng, counts);
+}
+
+/// Lists about as long as a printout takes, on table S and on a table of the largest size.
+fn limits(seed: u64, counts: &mut Counts) {
+    let most = 3 * MAX_STEPS;
+    let s = read_table(S).expect("table S is accepted");
+    for table in [s, largest_table(&mut Prng::for_case(seed + 1, 0))] {
+        let mut rng = Prng::for_case(seed + 2, table.boxes.len() as u64);
+        let steps = driven(&mut rng, &table, 70_000);
+        let file = file_bytes(&table);
+        for length in [most - 1, most, most + 1, most + 3, steps.len()] {
+            Case::new(&file, &steps[..length]).compare(&mut rng, counts);
+        }
+    }
+}
+
+/// The bytes of steps chosen from the line as it stands.
+fn driven(rng: &mut Prng, table: &Table, count: usize) -> Vec<u8> {
+    step_bytes(&drive(rng, &mut start_line(table), count))
+}

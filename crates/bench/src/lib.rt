@@ -1,11 +1,11 @@
-// The reader, the writer and the engine as the benchmark calls them, from a static library. Nothing else uses this crate.
+// The reader and single steps of the engine as the benchmark calls them, from a static library; writing and runs it takes from
+// `lineengine`. Nothing else uses this crate.
 use rules::Line;
 use rules::Outcome;
 ghost use mathlib.Core.Path.{_≡_};
 ghost use Prim.Native.Nat.{_%_, _/_, _+_, _<_, _≤_};
 ghost use mathlib.Core.List.{_++_};
 ghost use lib.ListN.{length, drop};
-ghost use Rattle.rules.specs.File.{writeCode, written};
 ghost use Rattle.rules.specs.Line.{read};
 ghost use Rattle.rules.specs.Record.{checkedStep};
 ghost use Rattle.rules.specs.History.{lineAfter};
@@ -51,28 +51,6 @@ pub extern "C" fn bench_read(bytes: &[u8], i: u8) -> u64
     sampled(outcome, (i % 16) as usize)
 }
 
-// Reads a file and writes its table back.
-#[no_mangle]
-pub extern "C" fn bench_write_back(bytes: &[u8], buffer: &mut [u8]) -> u8
-    ensures { λ r. ⌜ r ≡ writeCode (read (now (bytes .entry)) .line .table) (now (buffer .entry)) ⌝ }
-    ensures { λ r. ⌜ now (buffer .exit) ≡ written (read (now (bytes .entry)) .line .table) (now (buffer .entry)) ⌝ }
-{
-    let outcome = reading::read(bytes);
-    let line = outcome.line;
-    let table = line.table;
-    writing::write(table, buffer)
-}
-
-// Runs a file and steps, and answers the code.
-#[no_mangle]
-pub extern "C" fn bench_run(file: &[u8], steps: &[u8], answers: &mut [u8]) -> u8
-    ensures { λ r. ⌜ r ≡ run checkedStep (now (file .entry)) (now (steps .entry)) (now (answers .entry)) .code ⌝ }
-    ensures { λ r. ⌜ now (answers .exit) ≡ answered checkedStep (now (file .entry)) (now (steps .entry)) (now (answers .entry)) ⌝ }
-{
-    let outcome = engine::run(file, steps, answers);
-    outcome.code
-}
-
 // Takes all steps from a line on, each by a call of its own on the line that the one before returned.
 fn called(start: Line, steps: &[u8], answers: &mut [u8]) -> Line
     requires { ⌜ stepCount (now steps) ≤ length (now answers) ⌝ }
@@ -96,7 +74,7 @@ fn called(start: Line, steps: &[u8], answers: &mut [u8]) -> Line
     line
 }
 
-// The same as `bench_run`, by single checked steps.
+// Runs a file and steps, by single checked steps, and answers the code.
 #[no_mangle]
 pub extern "C" fn bench_steps(file: &[u8], steps: &[u8], answers: &mut [u8]) -> u8
     ensures { λ r. ⌜ r ≡ run checkedStep (now (file .entry)) (now (steps .entry)) (now (answers .entry)) .code ⌝ }

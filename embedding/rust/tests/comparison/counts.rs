@@ -25,7 +25,7 @@ impl Counts {
             Err(code) => self.file_codes[*code as usize] += 1,
             Ok(codes) => {
                 self.file_codes[0] += 1;
-                self.cut_short += usize::from(steps.len() % 3 != 0);
+                self.cut_short += usize::from(!steps.chunks_exact(3).remainder().is_empty());
                 codes.iter().for_each(|&code| self.step_codes[code as usize] += 1);
             }
         }
@@ -38,7 +38,7 @@ impl Counts {
         if !same {
             self.differences += 1;
             if self.differences <= SHOWN {
-                println!("{function:?} differs: {}", what());
+                println!("{function:?} differs: {:.2000}", what());
             }
         }
     }

@@ -1,1 +1,2 @@
 pub mod WriteBack
+pub mod Safe

@@ -4,9 +4,10 @@
 ghost use mathlib.Core.Path.{_≡_};
 ghost use Rattle.rules.specs.File.{fileCode};
 ghost use Rattle.rules.specs.Record.{checkedStep};
-ghost use Rattle.rules.specs.Run.{run, answered, SafeRun};
+ghost use Rattle.rules.specs.Run.{run, answered};
 ghost use Rattle.rules.specs.Printout.{printCode, printLength, printedText, printedAnswers};
 ghost use Rattle.lineengine.specs.WriteBack.{writeBackCode, writtenBack};
+ghost use Rattle.lineengine.specs.Safe.{SafelyAnswered};
 
 // The code of a table file: 0, or the first of 1 to 12 that refuses it.
 #[no_mangle]
@@ -24,7 +25,7 @@ pub extern "C" fn lineengine_check(table: &[u8]) -> u8
 pub extern "C" fn lineengine_run(table: &[u8], steps: &[u8], answers: &mut [u8]) -> u8
     ensures { λ r. ⌜ r ≡ run checkedStep (now (table .entry)) (now (steps .entry)) (now (answers .entry)) .code ⌝ }
     ensures { λ r. ⌜ now (answers .exit) ≡ answered checkedStep (now (table .entry)) (now (steps .entry)) (now (answers .entry)) ⌝ }
-    ensures { λ r. ⌜ (r ≡ 0 → SafeRun (now (table .entry)) (now (steps .entry)) (run checkedStep (now (table .entry)) (now (steps .entry)) (now (answers .entry)) .line) (now (answers .entry)) (now (answers .exit))) ⌝ }
+    ensures { λ r. ⌜ (r ≡ 0 → SafelyAnswered (now (table .entry)) (now (steps .entry)) (now (answers .entry)) (now (answers .exit))) ⌝ }
 {
     let ran = engine::run(table, steps, answers);
     ran.code

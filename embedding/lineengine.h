@@ -38,7 +38,7 @@ extern "C" {
 #define LINEENGINE_ACCEPTED 0
 #define LINEENGINE_BUFFER_TOO_SHORT 26
 
-/* The most bytes of a table that is accepted: 96 segments and boxes, 16 trains with routes of 64. */
+/* No table with more bytes is accepted: 96 segments and boxes, 16 trains with routes of 64. */
 #define LINEENGINE_MOST_TABLE 1736
 
 /* The most steps that `lineengine_print` takes; `lineengine_run` takes any number. */

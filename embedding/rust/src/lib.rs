@@ -16,7 +16,7 @@ mod refusal;
 
 pub use refusal::{Buffer, Refusal};
 
-/// The most bytes of a table that is accepted.
+/// No table with more bytes is accepted.
 pub const MOST_TABLE: usize = 1_736;
 
 /// The most steps that `print` takes; `run` takes any number.

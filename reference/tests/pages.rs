@@ -65,7 +65,33 @@ fn codes_have_their_smallest_examples() {
     }
 }
 
-/// Only the last step has the code of a step; a file without the fault of 26 or 27 is accepted.
+/// The text between two others, the first such place.
+fn between<'a>(text: &'a str, before: &str, after: &str) -> Option<&'a str> {
+    Some(text.split_once(before)?.1.split_once(after)?.0)
+}
+
+/// The example of an entry, mended as the entry says: with a record in the place of another, or with steps
+/// before its own.
+fn mended(text: &str) -> Option<Example> {
+    let block = blocks(text)[0];
+    let words = text.split_whitespace().collect::<Vec<_>>().join(" ");
+    if let Some(steps) = between(&words, "With the steps `", "` before, the answer is 0.") {
+        return Some(example(&format!("{}\n{block}", steps.replace(") (", ")\n("))));
+    }
+    let (record, name) = between(&words, "With `", " the file is accepted.")?.split_once("` as ")?;
+    let line = block.lines().find(|line| line.contains(&format!("  {name}: "))).expect("the record is there");
+    Some(example(&block.replace(line, record)))
+}
+
+/// Mended examples have code 0.
+#[test]
+fn mended_examples_are_accepted() {
+    let tried = entries().into_iter().filter_map(|(code, text)| Some((code, mended(text)?)));
+    let answers: Vec<(u8, u8)> = tried.map(|(code, example)| (code, example.answer())).collect();
+    assert_eq!(answers, [6, 7, 8, 10, 11, 19, 25].map(|code| (code, 0)));
+}
+
+/// A file has the code, or it is accepted and every step before the last is answered 0.
 #[test]
 fn examples_show_one_code() {
     for (i, smallest) in smallest_examples().into_iter().enumerate() {
@@ -139,4 +165,7 @@ fn tables_page_has_the_refused_sample() {
     let trains = &text[text.find("00 02 02 03").expect("train 1")..];
     assert!(blocks.contains(&trains));
     assert!(blocks.contains(&REFUSED_PRINTOUT));
+    let record = between(TABLES, "record is `", "` and the table is accepted").expect("the mended record");
+    let mended = example(&text.replace(trains.lines().next().expect("train 1"), record));
+    assert_eq!(read_table(&mended.file).map(|table| table.trains[0].route.clone()), Ok(vec![2, 4]));
 }

@@ -65,7 +65,8 @@ impl Example {
             add(&mut text, &format!("({kind}, {train}, {number})"), &format!("{}: {code}", step_words(bytes)));
         }
         if let Some(length) = self.buffer {
-            add(&mut text, &format!("buffer {length}"), &format!("the bytes of the lent buffer: {}", self.answer()));
+            let words = format!("the file is to be written to {length} bytes: {}", self.answer());
+            add(&mut text, &format!("buffer {length}"), &words);
         }
         text
     }

@@ -27,7 +27,7 @@ pub struct Files<'a> {
 pub type Found<'a, T> = &'a mut dyn FnMut(&Table) -> Option<T>;
 
 impl<'a> Files<'a> {
-    /// All accepted files of a length, and some that 9 or 12 refuses.
+    /// All accepted files of a length with so many trains or more, and some that 12 refuses.
     pub fn accepted(length: usize, trains: usize) -> Files<'a> {
         Files { length, code: 0, trains, differences: 0, like: &[] }
     }
@@ -68,7 +68,8 @@ impl<'a> Files<'a> {
     /// Whether the first bytes of the table's file are near enough to those of `like`.
     fn near(&self, table: &Table, bytes: usize) -> bool {
         let differ = |(a, b): &(&u8, &u8)| a != b;
-        self.like.is_empty() || file_bytes(table)[..bytes].iter().zip(self.like).filter(differ).count() <= self.differences
+        let count = |file: Vec<u8>| file[..bytes].iter().zip(self.like).filter(differ).count();
+        self.like.is_empty() || count(file_bytes(table)) <= self.differences
     }
 
     /// All tables with these segments before segment `i`, from 0.
@@ -80,7 +81,8 @@ impl<'a> Files<'a> {
         let most = table.boxes.len() as u8 + 1;
         for (a, b) in (0..=most).flat_map(|a| (0..=most).map(move |b| (a, b))) {
             table.segments[i] = Segment { a, b };
-            let passes = (!self.past(6) || !ends_fail(table, &table.segments[i])) && (!self.past(8) || few_ends(table, i));
+            let ends = !self.past(6) || !ends_fail(table, &table.segments[i]);
+            let passes = ends && (!self.past(8) || few_ends(table, i));
             if passes && self.near(table, HEAD + 2 * (i + 1)) {
                 if let Some(result) = self.segments(table, i + 1, found) {
                     return Some(result);
@@ -95,9 +97,9 @@ impl<'a> Files<'a> {
         if i == table.boxes.len() {
             return self.trains(table, 0, found);
         }
-        let n = table.segments.len() as u8;
-        let here = |&segment: &u8| !self.past(8) || segment == 0 || side_at(table, segment, (i + 1) as u8).is_some();
-        let places: Vec<u8> = (0..=n + 1).filter(here).collect();
+        let ends_here = |segment: u8| side_at(table, segment, (i + 1) as u8).is_some();
+        let tried = |&segment: &u8| !self.past(8) || segment == 0 || ends_here(segment);
+        let places: Vec<u8> = (0..=table.segments.len() as u8 + 1).filter(tried).collect();
         for plan in plans(&places) {
             table.boxes[i] = plan;
             let passes = (!self.past(7) || !box_fails(table, &plan)) && (!self.past(8) || fits_track(table, i));

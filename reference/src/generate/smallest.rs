@@ -125,7 +125,7 @@ fn may_show(table: &Table, code: u8) -> bool {
 }
 
 /// For each of the codes that some list of steps ends with, the first such list: breadth first, the lowest
-/// steps first. A step that is no better than garbage stands for all of its sort.
+/// steps first.
 fn shortest_lists(table: &Table, codes: &[u8]) -> Vec<(u8, Vec<Step>)> {
     let start = start_line(table);
     let mut seen = HashSet::from([(start.boxes.clone(), start.trains.clone())]);
@@ -151,7 +151,8 @@ fn shortest_lists(table: &Table, codes: &[u8]) -> Vec<(u8, Vec<Step>)> {
     found
 }
 
-/// Steps of every sort, the lowest bytes first: kinds, trains and boxes up to the first above their limits.
+/// Steps of every sort, the lowest bytes first. The first kind, train or box above its limit stands for all
+/// above it, which the rules do not tell apart.
 fn steps_of(table: &Table) -> Vec<Step> {
     let (k, m) = (table.trains.len() as u8, table.boxes.len() as u8);
     let trains = |kind| (0..=k + 1).flat_map(move |train| (0..=m + 1).map(move |number| [kind, train, number]));

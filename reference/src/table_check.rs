@@ -87,14 +87,14 @@ pub fn counts_fit(n: usize, m: usize, k: usize) -> bool {
 }
 
 /// 6: an end at no box of the table, or both ends at one box.
-fn ends_fail(table: &Table, segment: &Segment) -> bool {
+pub fn ends_fail(table: &Table, segment: &Segment) -> bool {
     table.switch_box(segment.a).is_none()
         || table.switch_box(segment.b).is_none()
         || segment.a == segment.b
 }
 
 /// 7: kind, needed and unused places, equal branches, position at start.
-fn box_fails(table: &Table, b: &SwitchBox) -> bool {
+pub fn box_fails(table: &Table, b: &SwitchBox) -> bool {
     if b.kind > POINT {
         return true;
     }
@@ -130,7 +130,7 @@ fn listing_fails(table: &Table, fault: Fault) -> bool {
 }
 
 /// Which end of the segment is at the box: 0 for A, 1 for B.
-fn side_at(table: &Table, segment: u8, number: u8) -> Option<u8> {
+pub fn side_at(table: &Table, segment: u8, number: u8) -> Option<u8> {
     let s = table.segment(segment)?;
     match number {
         _ if s.a == number => Some(0),
@@ -142,7 +142,7 @@ fn side_at(table: &Table, segment: u8, number: u8) -> Option<u8> {
 /// 9: some segments follow one another in direction 0 round a loop.
 /// Segments with nobody before them are taken away until none is left to
 /// take; what stays holds a loop.
-fn has_loop(table: &Table) -> bool {
+pub fn has_loop(table: &Table) -> bool {
     let mut left: Vec<Segment> = table.segments.clone();
     loop {
         let before = left.len();

@@ -1,9 +1,13 @@
 //! Seeded generators of tables, damaged files and step lists. The same seed
-//! gives the same cases on every machine.
+//! gives the same cases on every machine. Beside them the smallest example
+//! of each code, found by search.
 
 pub mod damage;
 pub mod draft;
+pub mod example;
 pub mod made_up;
 pub mod prng;
+pub mod small_tables;
+pub mod smallest;
 pub mod steps;
 pub mod tables;

@@ -1,6 +1,7 @@
 //! Makes the corpus of the program `cases` and the text that it must write, with this
 //! implementation alone. The argument is a directory: the corpus goes to its file `stdin`, the text
-//! to its file `stdout`, and what they hold to standard error.
+//! to its file `stdout`, and what they hold to standard error. It begins with the smallest example of
+//! each code 1 to 27.
 //!
 //! The corpus is a list of records. Numbers of two bytes have the high byte first.
 //!
@@ -30,6 +31,7 @@
 //! hexadecimal. Beside a refused run it is empty.
 
 mod corpus;
+mod examples;
 mod files;
 mod lines;
 
@@ -53,6 +55,7 @@ fn step_codes() -> impl Iterator<Item = usize> {
 /// The corpus, and how many files of its damaged part have each code.
 fn make() -> (Corpus, Counts) {
     let mut corpus = Corpus::default();
+    examples::smallest(&mut corpus);
     files::table_s(&mut corpus);
     files::accepted(&mut corpus);
     let before = corpus.counts;

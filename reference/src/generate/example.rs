@@ -1,0 +1,143 @@
+//! An example of a code: a table file and what is done with it, its answer, and its text.
+
+use crate::line::{start_line, Line};
+use crate::record::{Change, Record};
+use crate::step::{step, step_checked, Step};
+use crate::table::*;
+use crate::table_read::read_table;
+use crate::table_write::write_table;
+use std::fmt::Write;
+
+/// A file alone; or an accepted file with a list of steps, with one field of the record changed before
+/// the last of them where there is a change; or an accepted file with the length of a buffer to write it to.
+#[derive(Clone, Debug, PartialEq, Eq, Default)]
+pub struct Example {
+    pub file: Vec<u8>,
+    pub steps: Vec<Step>,
+    pub change: Option<Change>,
+    pub buffer: Option<usize>,
+}
+
+/// Names of a box's fields that a change is shown by, in the order of the record.
+pub const BOX_FIELDS: [&str; 6] = ["sensor", "position", "lock", "stem holder", "left holder", "right holder"];
+/// Column at which the words for the bytes begin.
+const WORDS: usize = 26;
+
+impl Example {
+    /// The code of what is done last.
+    pub fn answer(&self) -> u8 {
+        let table = match read_table(&self.file) {
+            Err(code) => return code,
+            Ok(table) => table,
+        };
+        match self.buffer {
+            Some(length) => write_table(&table, &mut vec![0; length]).err().unwrap_or(0),
+            None => self.answers(&table).last().copied().unwrap_or(0),
+        }
+    }
+
+    /// The codes of the steps.
+    fn answers(&self, table: &Table) -> Vec<u8> {
+        let mut line = start_line(table);
+        let mut codes = Vec::new();
+        for (i, &bytes) in self.steps.iter().enumerate() {
+            codes.push(match self.change {
+                Some(change) if i + 1 == self.steps.len() => step_checked(&mut changed(&line, change), bytes),
+                _ => step(&mut line, bytes),
+            });
+        }
+        codes
+    }
+
+    /// The example as text: the bytes of a record a line, then each step with its answer, with words.
+    pub fn text(&self) -> String {
+        let mut text = file_text(&self.file);
+        let Ok(table) = read_table(&self.file) else {
+            return text;
+        };
+        let answers = self.answers(&table);
+        for (i, (&bytes, code)) in self.steps.iter().zip(answers).enumerate() {
+            if let (Some([_, index, field, value]), true) = (self.change, i + 1 == self.steps.len()) {
+                let left = format!("box {}, {}: {value}", index + 1, BOX_FIELDS[field as usize]);
+                add(&mut text, &left, "the field of the line record is changed by hand");
+            }
+            let [kind, train, number] = bytes;
+            add(&mut text, &format!("({kind}, {train}, {number})"), &format!("{}: {code}", step_words(bytes)));
+        }
+        if let Some(length) = self.buffer {
+            let words = format!("the file is to be written to {length} bytes: {}", self.answer());
+            add(&mut text, &format!("buffer {length}"), &words);
+        }
+        text
+    }
+}
+
+/// The line with one field of its record changed.
+fn changed(line: &Line, change: Change) -> Line {
+    let mut record = Record::of(line);
+    record.change(change);
+    record.line()
+}
+
+/// A line of text: bytes on the left, words on the right.
+fn add(text: &mut String, left: &str, words: &str) {
+    writeln!(text, "{left:WORDS$}{words}").expect("writing to a string");
+}
+
+fn hex(bytes: &[u8]) -> String {
+    bytes.iter().map(|b| format!("{b:02X}")).collect::<Vec<_>>().join(" ")
+}
+
+/// The bytes of a file whose head and records, if it has any, are whole; a record a line.
+pub fn file_text(file: &[u8]) -> String {
+    let mut text = String::new();
+    let &[_, _, _, high, low, n, m, k, ref rest @ ..] = file else {
+        add(&mut text, &hex(file), if file.is_empty() { "no byte at all" } else { "less than a head" });
+        return text;
+    };
+    let version = u16::from_be_bytes([high, low]);
+    add(&mut text, &hex(&file[..8]), &format!("head: version {version}, n = {n}, m = {m}, k = {k}"));
+    if rest.is_empty() {
+        return text;
+    }
+    let (segments, rest) = rest.split_at(2 * n as usize);
+    for (i, s) in segments.chunks(2).enumerate() {
+        add(&mut text, &hex(s), &format!("segment {}: A end at box {}, B end at box {}", i + 1, s[0], s[1]));
+    }
+    let (boxes, mut rest) = rest.split_at(5 * m as usize);
+    for (i, b) in boxes.chunks(5).enumerate() {
+        add(&mut text, &hex(b), &format!("box {}: {}", i + 1, box_words(b)));
+    }
+    for train in 1..=k {
+        let (record, after) = rest.split_at(2 + rest[1] as usize);
+        let route: Vec<String> = record[2..].iter().map(u8::to_string).collect();
+        let route = if route.is_empty() { "empty".into() } else { route.join(", ") };
+        add(&mut text, &hex(record), &format!("train {train}: direction {}, route {route}", record[0]));
+        rest = after;
+    }
+    text
+}
+
+/// The record of a box in words.
+fn box_words(record: &[u8]) -> String {
+    let [kind, stem, left, right, position] = record.try_into().expect("a box has five bytes");
+    match kind {
+        BORDER => format!("border, stem {stem}"),
+        LINK => format!("link, stem {stem}, left {left}"),
+        POINT => format!("point, stem {stem}, left {left}, right {right}, position {position}"),
+        _ => format!("kind {kind}"),
+    }
+}
+
+/// What a step means.
+fn step_words([kind, train, number]: Step) -> String {
+    match kind {
+        1 => format!("train {train} asks box {number} for its next segment"),
+        2 => format!("train {train} asks box {number} for the lock"),
+        3 => format!("the box answers train {train}"),
+        4 => format!("train {train} hears the answer"),
+        5 => format!("train {train} enters its next segment"),
+        6 => format!("train {train} clears the box behind"),
+        _ => format!("there is no kind {kind}"),
+    }
+}

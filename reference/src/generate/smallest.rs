@@ -1,0 +1,174 @@
+//! The smallest example of each code 1 to 27, found by search.
+//!
+//! - Accepted files: fewer bytes are smaller, then lower bytes, the first that differs deciding.
+//! - Refused files (1 to 12): fewer bytes are smaller; then fewer places that differ from the smallest
+//!   accepted file, as far as both go, so that little but the fault is wrong; then lower bytes.
+//! - Steps (13 to 25): the smallest accepted file on which some list of steps has the code, and the
+//!   shortest such list; among lists of one length the one with the lowest bytes.
+//! - A short buffer (26): the smallest accepted file and one byte less.
+//! - Line records (27): the start line of the smallest accepted file with one field of a box changed, the
+//!   first field and the lowest value that the check finds, and the lowest step.
+//!
+//! The search leaves out nothing that could be smaller. Under 8 bytes a file has code 1. With 8 bytes,
+//! every file is looked at that differs from the smallest accepted one in one place at most, and some of
+//! these have 2 to 5. For 6 to 12 and for accepted files, every table is looked at in order (see
+//! `small_tables.rs`); a table on which no list of steps has the code is given up only after all its
+//! lines, or where the code asks for trains that it lacks (`trains_for`, `may_show`).
+
+use super::example::Example;
+use super::small_tables::{Files, HEAD};
+use crate::line::start_line;
+use crate::step::{step, Step};
+use crate::table::*;
+use crate::table_read::read_table;
+use crate::table_write::file_bytes;
+use std::collections::{HashSet, VecDeque};
+
+/// No example needs a longer file.
+const LONGEST: usize = 60;
+
+/// The examples of the codes 1 to 27.
+pub fn smallest_examples() -> Vec<Example> {
+    let accepted = smallest_accepted();
+    let refused = (1..=12).map(|code| match code {
+        1..=5 => refused_head(code, &accepted),
+        _ => refused_body(code, &accepted),
+    });
+    let files = refused.map(|file| Example { file: file.expect("the code is found"), ..Example::default() });
+    let short = Example { buffer: Some(accepted.len() - 1), file: accepted.clone(), ..Example::default() };
+    files.chain(step_examples()).chain([short, changed_record(&accepted)]).collect()
+}
+
+/// The smallest accepted file.
+pub fn smallest_accepted() -> Vec<u8> {
+    let accepted = |table: &Table| Some(file_bytes(table)).filter(|file| read_table(file).is_ok());
+    let found = (0..LONGEST).find_map(|length| Files::accepted(length, 0).first(&mut { accepted }));
+    found.expect("some table is accepted")
+}
+
+/// What a refused file is compared by: length, places that differ from the smallest accepted file, bytes.
+pub fn refused_size<'a>(file: &'a [u8], accepted: &[u8]) -> (usize, usize, &'a [u8]) {
+    let differences = file.iter().zip(accepted).filter(|(a, b)| a != b).count();
+    (file.len(), differences, file)
+}
+
+/// The smallest file of 8 bytes at most with a code from 1 to 5.
+fn refused_head(code: u8, like: &[u8]) -> Option<Vec<u8>> {
+    let refused = |file: &Vec<u8>| read_table(file) == Err(code);
+    (0..=HEAD).find_map(|length| {
+        let front = like[..length].to_vec();
+        let changed = (0..length).flat_map(|place| (0..=255).map(move |value| (place, value)));
+        let one_place = changed.map(|(place, value)| {
+            let mut file = front.clone();
+            file[place] = value;
+            file
+        });
+        Some(front.clone()).filter(refused).or_else(|| one_place.filter(refused).min())
+    })
+}
+
+/// The smallest file with a code from 6 to 12.
+fn refused_body(code: u8, like: &[u8]) -> Option<Vec<u8>> {
+    let refused = |table: &Table| Some(file_bytes(table)).filter(|file| read_table(file) == Err(code));
+    let sizes = (0..LONGEST).flat_map(|length| (0..=length).map(move |differences| (length, differences)));
+    let files = |(length, differences)| Files { length, code, trains: 0, differences, like };
+    sizes.map(files).find_map(|files| files.first(&mut { refused }))
+}
+
+/// The examples of the codes 13 to 25.
+fn step_examples() -> Vec<Example> {
+    let mut examples: Vec<Option<Example>> = vec![None; 13];
+    for length in 0..LONGEST {
+        let missing = (13..=25).filter(|code| examples[*code as usize - 13].is_none());
+        let Some(trains) = missing.map(trains_for).min() else {
+            break;
+        };
+        Files::accepted(length, trains).first::<()>(&mut |table| {
+            add_examples(&mut examples, table);
+            None
+        });
+    }
+    examples.into_iter().map(|example| example.expect("the code is found")).collect()
+}
+
+/// Adds what the table is the first to show, if it is accepted.
+fn add_examples(examples: &mut [Option<Example>], table: &Table) {
+    let missing = |code: &u8| examples[*code as usize - 13].is_none() && may_show(table, *code);
+    let codes: Vec<u8> = (13..=25).filter(missing).collect();
+    let file = file_bytes(table);
+    if codes.is_empty() || read_table(&file).is_err() {
+        return;
+    }
+    for (code, steps) in shortest_lists(table, &codes) {
+        examples[code as usize - 13] = Some(Example { file: file.clone(), steps, ..Example::default() });
+    }
+}
+
+/// The fewest trains with which a code can come: 22 to 24 need another train than the one that asks.
+fn trains_for(code: u8) -> usize {
+    match code {
+        13 | 14 => 0,
+        22..=24 => 2,
+        _ => 1,
+    }
+}
+
+/// Whether a list of steps on the table may have the code. 23 to 25 answer a request for a lock, which a
+/// train can send only if its route passes a point (17); 23 and 24 need another such train, which has got
+/// the lock: a point is entered with its lock alone (19).
+fn may_show(table: &Table, code: u8) -> bool {
+    let is_point = |number: u8| table.switch_box(number).is_some_and(|b| b.kind == POINT);
+    let over_point = |t: &&TrainEntry| t.route.windows(2).any(|w| is_point(table.far_box(w[0], t.direction)));
+    let lockers = table.trains.iter().filter(over_point).count();
+    let needed = if (23..=25).contains(&code) { lockers } else { table.trains.len() };
+    needed >= trains_for(code)
+}
+
+/// For each of the codes that some list of steps ends with, the first such list: breadth first, the lowest
+/// steps first.
+fn shortest_lists(table: &Table, codes: &[u8]) -> Vec<(u8, Vec<Step>)> {
+    let start = start_line(table);
+    let mut seen = HashSet::from([(start.boxes.clone(), start.trains.clone())]);
+    let mut open = VecDeque::from([(start, Vec::<Step>::new())]);
+    let mut found: Vec<(u8, Vec<Step>)> = Vec::new();
+    let steps = steps_of(table);
+    while let Some((line, taken)) = open.pop_front() {
+        for &bytes in &steps {
+            let mut after = line.clone();
+            let code = step(&mut after, bytes);
+            let list = || [&taken[..], &[bytes]].concat();
+            if codes.contains(&code) && found.iter().all(|&(other, _)| other != code) {
+                found.push((code, list()));
+            }
+            if !(13..=21).contains(&code) && seen.insert((after.boxes.clone(), after.trains.clone())) {
+                open.push_back((after, list()));
+            }
+        }
+        if found.len() == codes.len() {
+            break;
+        }
+    }
+    found
+}
+
+/// Steps of every sort, the lowest bytes first. The first kind, train or box above its limit stands for all
+/// above it, which the rules do not tell apart.
+fn steps_of(table: &Table) -> Vec<Step> {
+    let (k, m) = (table.trains.len() as u8, table.boxes.len() as u8);
+    let trains = |kind| (0..=k + 1).flat_map(move |train| (0..=m + 1).map(move |number| [kind, train, number]));
+    (0..=7).flat_map(trains).collect()
+}
+
+/// The example of code 27.
+fn changed_record(accepted: &[u8]) -> Example {
+    let m = accepted[6];
+    let fields = (0..m).flat_map(|index| (0..6).map(move |field| (index, field)));
+    let changes = fields.flat_map(|(index, field)| (0..=255).map(move |value| [b'b', index, field, value]));
+    let example = |change| Example {
+        file: accepted.to_vec(),
+        steps: vec![[0, 0, 0]],
+        change: Some(change),
+        ..Example::default()
+    };
+    changes.map(example).find(|example| example.answer() == 27).expect("some change is found")
+}

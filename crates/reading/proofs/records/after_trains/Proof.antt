@@ -5,8 +5,8 @@ use native.Mathlib.Omega.{arith}
 use borrow.Author.Needs.{needs}
 use Rattle.rules.specs.File.{segmentCount, boxCount, trainsFrom}
 use Rattle.reading.proofs.Parts.{trains-none, trains-more}
-use Rattle.reading.proofs.head.trains_from.Statement.{statement}
-use Rattle.reading.proofs.head.trains_from.Tie as tie
+use Rattle.reading.proofs.records.after_trains.Statement.{statement}
+use Rattle.reading.proofs.records.after_trains.Tie as tie
 
 abbrev Inv-loop : tie.InvT-loop
 Inv-loop bytes count n m at₀ j₀ at j = (j ≤ count) × (at ≡ trainsFrom bytes j) × (at ≤ 2048 + 257 * j)
@@ -26,8 +26,8 @@ returns c =
     let e : c .before .loop .j ≡ c .before .before .before .before .before .args .count = omega arith in
     rw (sym e) (c .before .loop .inv .1)
 
-pub trains-from-spec : {M : Type 1} → statement M
-trains-from-spec =
+pub after-trains-spec : {M : Type 1} → statement M
+after-trains-spec =
     tie.close
     (tie.spec
     Inv-loop

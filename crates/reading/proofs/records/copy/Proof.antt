@@ -5,8 +5,8 @@ use native.Mathlib.Omega.{arith}
 use lib.ListN.{take, drop}
 use lib.Seq.{sets}
 use Rattle.reading.proofs.Fill.{copy-more}
-use Rattle.reading.proofs.body.copy.Statement.{statement}
-use Rattle.reading.proofs.body.copy.Tie as tie
+use Rattle.reading.proofs.records.copy.Statement.{statement}
+use Rattle.reading.proofs.records.copy.Tie as tie
 
 abbrev Inv-loop : tie.InvT-loop
 Inv-loop routes₀ place bytes from count j₀ routes j = (j ≤ count) × (routes ≡ sets routes₀ place (take j (drop from bytes)))

@@ -8,8 +8,8 @@ use Rattle.rules.specs.Track.{noBoxPlan}
 use Rattle.rules.specs.File.{byteAt, segmentCount, boxCount, planIn}
 use Rattle.reading.proofs.Fill.{fill-none, fill-more}
 use Rattle.reading.proofs.Parts.{whole-boxes, plan-in}
-use Rattle.reading.proofs.body.boxes.Statement.{statement}
-use Rattle.reading.proofs.body.boxes.Tie as tie
+use Rattle.reading.proofs.records.boxes.Statement.{statement}
+use Rattle.reading.proofs.records.boxes.Tie as tie
 
 abbrev Inv-loop : tie.InvT-loop
 Inv-loop bytes n m all₀ i₀ all i =

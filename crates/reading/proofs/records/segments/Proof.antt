@@ -8,8 +8,8 @@ use Rattle.rules.specs.Track.{noSegment}
 use Rattle.rules.specs.File.{byteAt, segmentCount, segmentIn}
 use Rattle.reading.proofs.Fill.{fill-none, fill-more}
 use Rattle.reading.proofs.Parts.{whole-boxes, segment-in}
-use Rattle.reading.proofs.body.segments.Statement.{statement}
-use Rattle.reading.proofs.body.segments.Tie as tie
+use Rattle.reading.proofs.records.segments.Statement.{statement}
+use Rattle.reading.proofs.records.segments.Tie as tie
 
 abbrev Inv-loop : tie.InvT-loop
 Inv-loop bytes n all₀ i₀ all i =

@@ -7,8 +7,8 @@ use lib.ListN.{length, getD}
 use Rattle.rules.specs.File.{byteAt, trainCount, trainsFrom}
 use Rattle.reading.specs.Whole.{routesUpTo}
 use Rattle.reading.proofs.Parts.{whole-boxes, whole-rest, trains-next, train-room, routes-none, routes-more}
-use Rattle.reading.proofs.body.routes.Statement.{statement}
-use Rattle.reading.proofs.body.routes.Tie as tie
+use Rattle.reading.proofs.records.routes.Statement.{statement}
+use Rattle.reading.proofs.records.routes.Tie as tie
 
 abbrev Inv-loop : tie.InvT-loop
 Inv-loop bytes k all₀ at₀ i₀ all at i =

@@ -9,8 +9,8 @@ use Rattle.rules.specs.Track.{noTrainPlan}
 use Rattle.rules.specs.File.{byteAt, trainCount, trainsFrom, trainPlanIn}
 use Rattle.reading.proofs.Fill.{fill-none, fill-more}
 use Rattle.reading.proofs.Parts.{whole-boxes, whole-rest, trains-next, train-plan-in}
-use Rattle.reading.proofs.body.trains.Statement.{statement}
-use Rattle.reading.proofs.body.trains.Tie as tie
+use Rattle.reading.proofs.records.trains.Statement.{statement}
+use Rattle.reading.proofs.records.trains.Tie as tie
 
 abbrev Inv-loop : tie.InvT-loop
 Inv-loop bytes k all₀ at₀ i₀ all at i =

@@ -3,8 +3,8 @@ use native.Mathlib.Omega.{arith}
 use borrow.Author.Needs.{needs}
 use Rattle.rules.specs.File.{byteAt, segmentCount, boxCount, trainCount}
 use Rattle.reading.proofs.Parts.{whole-boxes, decode-of}
-use Rattle.reading.proofs.body.table.Statement.{statement}
-use Rattle.reading.proofs.body.table.Tie as tie
+use Rattle.reading.proofs.head.table.Statement.{statement}
+use Rattle.reading.proofs.head.table.Tie as tie
 
 version-requires : tie.Need-version-requires
 version-requires c κs = omega (arith, whole-boxes _ (c .before .pre))

@@ -3,8 +3,8 @@ use mathlib.Core.Path.{refl, sym}
 use borrow.Author.Needs.{needs}
 use lib.ListN.{List·getD-eq-default}
 use Rattle.rules.specs.File.{byteAt}
-use Rattle.reading.proofs.head.byte_at.Statement.{statement}
-use Rattle.reading.proofs.head.byte_at.Tie as tie
+use Rattle.reading.proofs.records.byte_at.Statement.{statement}
+use Rattle.reading.proofs.records.byte_at.Tie as tie
 
 returns : tie.Need-returns
 unfolding byteAt

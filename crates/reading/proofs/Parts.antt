@@ -7,13 +7,13 @@ use native.Mathlib.Omega.{arith}
 use lib.ListN.{length, getD, take, drop, replicate}
 use lib.Seq.{sets}
 use Rattle.rules.specs.File.{versionIn, decode, segmentSize, boxSize, trainSize, byteAt, segmentCount, boxCount, trainCount, segmentStart, boxStart, trainsFrom, trainStart, fileLength, segmentIn, planIn, trainPlanIn, routeIn}
-use Rattle.rules.specs.Rows.{filled, listOf}
-use Rattle.rules.specs.Track.{noSegment, noBoxPlan, noTrainPlan}
+use Rattle.rules.specs.Rows.{filled}
 use Rattle.rules.proofs.Rows.{join-none, filled-none}
 use Rattle.rules.specs.declared.Segment.{Segment}
 use Rattle.rules.specs.declared.BoxPlan.{BoxPlan}
 use Rattle.rules.specs.declared.TrainPlan.{TrainPlan}
-use Rattle.reading.specs.Whole.{Whole, routesUpTo}
+use Rattle.reading.specs.Whole.{Whole, segmentsOf, boxesOf, trainsOf, routesUpTo, routesOf}
+use Rattle.reading.specs.Places.{Headed}
 use Rattle.reading.proofs.Fill.{join-set}
 
 module _ (bytes : List ℕ) where
@@ -123,23 +123,25 @@ module _ (bytes : List ℕ) where
   unfolding trainCount byteAt
   train-room w i at h e = rw e (whole-train w i h)
 
-  -- The table record, by its parts.
-  pub decode-of : (v : ℕ) (s : List Segment) (b : List BoxPlan) (t : List TrainPlan) (r : List ℕ) →
-      v ≡ versionIn bytes →
-      s ≡ filled 96 noSegment (listOf (segmentCount bytes) (segmentIn bytes)) →
-      b ≡ filled 96 noBoxPlan (listOf (boxCount bytes) (planIn bytes)) →
-      t ≡ filled 16 noTrainPlan (listOf (trainCount bytes) (trainPlanIn bytes)) →
-      r ≡ routesUpTo bytes (trainCount bytes) →
-      record {
-        version = v;
-        n = segmentCount bytes;
-        m = boxCount bytes;
-        k = trainCount bytes;
-        segments = s;
-        boxes = b;
-        trains = t;
-        routes = r;
-      }
-      ≡ decode bytes
-  unfolding decode routesUpTo
-  decode-of v s b t r e f g h k = rw (e, f, g, h, k)
+  -- Where the records begin, by the numbers of the head and the sizes of the records.
+  pub segments-place : segmentStart bytes 1 ≡ 8
+  unfolding segmentStart segmentSize
+  segments-place = omega arith
+
+  pub boxes-place : (n : ℕ) → n ≡ segmentCount bytes → boxStart bytes 1 ≡ 8 + n * 2
+  boxes-place n e = omega (arith, box-start 0)
+
+  pub trains-place : (n m : ℕ) → n ≡ segmentCount bytes → m ≡ boxCount bytes → trainsFrom bytes 0 ≡ 8 + n * 2 + m * 5
+  trains-place n m e f = omega (arith, trains-none)
+
+  -- The table record, by the numbers of the head and the arrays.
+  pub decode-of : (version n m k : ℕ) (s : List Segment) (b : List BoxPlan) (t : List TrainPlan) (r : List ℕ) →
+      Headed bytes version n m k →
+      s ≡ segmentsOf bytes →
+      b ≡ boxesOf bytes →
+      t ≡ trainsOf bytes →
+      r ≡ routesOf bytes →
+      record { version = version; n = n; m = m; k = k; segments = s; boxes = b; trains = t; routes = r } ≡ decode bytes
+  unfolding decode segmentsOf boxesOf trainsOf routesOf routesUpTo
+  decode-of version n m k s b t r h es eb et er =
+      rw (h .version-is, h .counts .segments, h .counts .boxes, h .trains, es, eb, et, er)

@@ -115,12 +115,20 @@ pub(crate) fn table(bytes: &[u8], version: u16, n: u8, m: u8, k: u8) -> Table
     }
 }
 
+// The reader behind the first `count` train records of a file, with the numbers of its head.
+fn behind_trains<'a>(bytes: &'a [u8], n: u8, m: u8, count: u8) -> TableReader<'a>
+    requires { ⌜ Counts (now bytes) n m ⌝ }
+    ensures { λ r. ⌜ (r .bytes ≡ bytes .entry) × (r .at ≡ trainsFrom (now (bytes .entry)) count) ⌝ }
+{
+    past_trains(past(past(made(bytes), n, 2), m, 5), count)
+}
+
 // The file ends where its last train record ends.
 pub(crate) fn ends_with_trains(bytes: &[u8], n: u8, m: u8, k: u8) -> bool
     requires { ⌜ Counts (now bytes) n m ⌝ }
     ensures { λ b. ⌜ b ≡ eqb (length (now (bytes .entry))) (trainsFrom (now (bytes .entry)) k) ⌝ }
 {
-    at_end(past_trains(past(past(made(bytes), n, 2), m, 5), k))
+    at_end(behind_trains(bytes, n, m, k))
 }
 
 // The file from the train record behind the first `count` of them on.
@@ -128,5 +136,5 @@ pub(crate) fn from_train(bytes: &[u8], n: u8, m: u8, count: u8) -> &[u8]
     requires { ⌜ Counts (now bytes) n m × (trainsFrom (now bytes) count ≤ length (now bytes)) ⌝ }
     ensures { λ s. ⌜ now s ≡ drop (trainsFrom (now (bytes .entry)) count) (now (bytes .entry)) ⌝ }
 {
-    left(past_trains(past(past(made(bytes), n, 2), m, 5), count))
+    left(behind_trains(bytes, n, m, count))
 }

@@ -1,2 +1,3 @@
--- How a function that has the reader in a local calls the functions over it.
+-- What the walks of the functions that have a reader in a local share.
 mod Calls
+mod Trains

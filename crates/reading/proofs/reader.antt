@@ -1,3 +1,4 @@
 -- What the walks of the functions that have a reader in a local share.
 mod Calls
 mod Trains
+mod Parts

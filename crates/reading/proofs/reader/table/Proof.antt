@@ -20,7 +20,7 @@ use types.Run.{look, init, stop, from, lit, and-then, no-more, assigns, returns,
 use sound.WpLaws.{FmC, fmOf, WpFn-mono}
 use denote.RattleType.{owns}
 use denote.Laws.{Is}
-use denote.Array.{array-lawful}
+use denote.Array.{Array, array-lawful}
 use denote.Plain.{uint-vals, uint-tells, uint-lawful}
 use denote.Builtin.{u8, u16}
 use denote.Ref.{RefT, now}
@@ -35,6 +35,9 @@ use denote.Triple.Table.{entered, cited}
 use denote.Triple.Walked.{says, needs, Stays, stay-none, stay-none-slice, walkOf, goes-none, goes-none-slice, Walks, ends-at, walked, walk-meets}
 use denote.Exit.{yes}
 use Rattle.rules.specs.declared.Table.{Table}
+use Rattle.rules.specs.declared.Segment.{Segment}
+use Rattle.rules.specs.declared.BoxPlan.{BoxPlan}
+use Rattle.rules.specs.declared.TrainPlan.{TrainPlan}
 use Rattle.rules.specs.File.{decode}
 use Rattle.rules.proofs.Table as Tb
 use Rattle.rules.proofs.Table.Laws as Tb′
@@ -143,6 +146,15 @@ module _ {M : Type 1} (𝓤 : URA M) (H : Heap 𝓤) (A : Atoms 𝓤) (W : Given
   abbrev reading-routes : (u : Val) → Call 𝓤 H A κ q (NextRoutes 𝓤 H A mem run) (u ∷ []) (‵ (reader κ .own at-trains (u ∷ []))) (next-routes.signature .result .row (κ, tt)) (λ x. x ≡ routesOf (now b))
   reading-routes u = asking 𝓤 H A W κ q (next-routes.signature .result) (next-routes.clauses 𝓤 H A mem run) at-trains u tt (factI 𝓤 _ (emp 𝓤) stands-at-trains) (λ x. x ≡ routesOf (now b)) (λ x ws. id⊢ 𝓤 _)
 
+  -- the table record of arrays, and its machine value
+  abbrev tableOf : List Segment → List BoxPlan → List TrainPlan → List ℕ → Table
+  tableOf segments boxes trains routes = record { version = version; n = n; m = m; k = k; segments = segments; boxes = boxes; trains = trains; routes = routes }
+
+  built : (segments : List Segment) (boxes : List BoxPlan) (trains : List TrainPlan) (routes : List ℕ) (u₉ u₁₀ u₁₁ u₁₂ : Val)
+      → Is (Array S.the-row 96) segments (u₉ ∷ []) → Is (Array B.the-row 96) boxes (u₁₀ ∷ []) → Is (Array R.the-row 16) trains (u₁₁ ∷ []) → Is (Array u8 1024) routes (u₁₂ ∷ [])
+      → Is Tb.the-row (tableOf segments boxes trains routes) (tableVal (tableOf segments boxes trains routes) u₉ u₁₀ u₁₁ u₁₂ ∷ [])
+  built segments boxes trains routes u₉ u₁₀ u₁₁ u₁₂ = table-is (tableOf segments boxes trains routes) u₉ u₁₀ u₁₁ u₁₂ version-fits n-fits m-fits k-fits
+
   exits : (t : Table) (u : Val) → Is Tb.the-row t (u ∷ []) → t ≡ decode (now b) → ent 𝓤 (⋆ 𝓤 H A (token 𝓤 κ q ∷ ‵ File ∷ ‵ Numbers ∷ [])) (Post u)
   exits t u is e =
       qed W (token 𝓤 κ q ∷ ‵ File ∷ ‵ Numbers ∷ []) ∵
@@ -182,13 +194,11 @@ module _ {M : Type 1} (𝓤 : URA M) (H : Heap 𝓤) (A : Atoms 𝓤) (W : Given
         calls-told ! fm known-routes (reading-routes u₈) (and-then ! (of-local ! 3 refl) (no-more !)) (λ u₁₂ routes er is₁₂. into ! 16 refl (array-lawful 𝓤 H A W u8 (uint-lawful 𝓤 H A W w8) 1024 .typed routes _ is₁₂ .0) $
         move ! (1 ∷ []) $ drop ! $
         -- [the token; the file; the numbers; the locals, _i at 39 - 2 i]
-        let t : Table = record { version = version; n = n; m = m; k = k; segments = segments; boxes = boxes; trains = trains; routes = routes } in
-        let is : Is Tb.the-row t (tableVal t u₉ u₁₀ u₁₁ u₁₂ ∷ []) = table-is t u₉ u₁₀ u₁₁ u₁₂ version-fits n-fits m-fits k-fits is₉ is₁₀ is₁₁ is₁₂ in
         assigns ! (agg ! (and-then ! (of-local ! 35 refl) (and-then ! (of-local ! 33 refl) (and-then ! (of-local ! 31 refl) (and-then ! (of-local ! 29 refl) (and-then ! (of-local ! 21 refl) (and-then ! (of-local ! 19 refl) (and-then ! (of-local ! 17 refl) (and-then ! (of-local ! 15 refl) (no-more !)))))))))) (from ! (stop !))
-        (init ! 39 refl (LL.lawful Tb.the-type Tb′.the-laws 𝓤 H A W .typed t _ is .0)) $
+        (init ! 39 refl (LL.lawful Tb.the-type Tb′.the-laws 𝓤 H A W .typed (tableOf segments boxes trains routes) _ (built segments boxes trains routes u₉ u₁₀ u₁₁ u₁₂ is₉ is₁₀ is₁₁ is₁₂) .0)) $
         returns ! (look ! 39 refl) $ move ! (39 ∷ 40 ∷ 37 ∷ 38 ∷ 35 ∷ 36 ∷ 33 ∷ 34 ∷ 31 ∷ 32 ∷ 29 ∷ 30 ∷ 27 ∷ 28 ∷ 25 ∷ 26 ∷ 23 ∷ 24 ∷ 21 ∷ 22 ∷ 19 ∷ 20 ∷ 17 ∷ 18 ∷ 15 ∷ 16 ∷ 13 ∷ 14 ∷ 11 ∷ 12 ∷ 9 ∷ 10 ∷ 7 ∷ 8 ∷ 5 ∷ 6 ∷ 3 ∷ 4 ∷ []) $
         frees-local ! $ frees-local ! $ frees-local ! $ frees-local ! $ frees-local ! $ frees-local ! $ frees-local ! $ frees-local ! $ frees-local ! $ frees-local ! $ frees-local ! $ frees-local ! $ frees-local ! $ frees-local ! $ frees-local ! $ frees-local ! $ frees-local ! $ frees-local ! $ frees-local ! $ free0 ! $
-        by ! (exits t (tableVal t u₉ u₁₀ u₁₁ u₁₂) is (decode-of (now b) version n m k segments boxes trains routes headed es eb et er))))))))))))))))))))))))))))
+        by ! (exits (tableOf segments boxes trains routes) _ (built segments boxes trains routes u₉ u₁₀ u₁₁ u₁₂ is₉ is₁₀ is₁₁ is₁₂) (decode-of (now b) version n m k segments boxes trains routes headed es eb et er))))))))))))))))))))))))))))
 
 module _ {M : Type 1} (𝓤 : URA M) (H : Heap 𝓤) (A : Atoms 𝓤) (W : Given 𝓤 H A) (mem : Memory → SProp 𝓤) (run : Routine → Fun 𝓤) where
   walks : (C : Calls 𝓤 H) (Λ : Loops 𝓤 H) → FmC 𝓤 H (W .laws) C → Triple 𝓤 (C #made) (Made 𝓤 H A mem run) → Triple 𝓤 (C #past) (Past 𝓤 H A mem run) → Triple 𝓤 (C #next-segments) (NextSegments 𝓤 H A mem run) → Triple 𝓤 (C #next-boxes) (NextBoxes 𝓤 H A mem run) → Triple 𝓤 (C #next-trains) (NextTrains 𝓤 H A mem run) → Triple 𝓤 (C #next-routes) (NextRoutes 𝓤 H A mem run)

@@ -4,3 +4,4 @@ pub mod Parts
 pub mod Begin
 pub mod Codes
 pub mod Accepted
+pub mod Apart

@@ -3,7 +3,7 @@
 -- proves all six, over the result's type, the function called, what that asks and what it says.
 -- Assumes nothing.
 use mathlib.Core.Path.{_≡_, refl}
-use Prim.Native.Nat.{ℕ}
+use Prim.Native.Nat.{ℕ, _<_, _^_}
 use mathlib.Core.List.{List, [], _∷_}
 use lib.Dec.{T as Holds}
 use lib.ListN.{length}
@@ -24,18 +24,19 @@ use types.Run.{look, init, forget, stop, fld, from, load, of-opd, and-then, no-m
 use sound.WpLaws.{FmC, fmOf, WpFn-mono}
 use denote.RattleType.{RattleType, owns}
 use denote.Laws.{Is, shows}
+use denote.Plain.{uint-makes}
 use denote.Builtin.{u8, usize, SliceRefOf}
-use denote.Ref.{RefT, NamedLft}
+use denote.Ref.{RefT}
 use denote.Signature.{Slot, plain, namedLft}
 use denote.Slice.{sliceTy, sliceVal, ShrSlice}
-use denote.Steps.{peeks, nothing}
+use denote.Steps.{owned, peeks, nothing}
 use denote.Struct.Declared.{Declared}
 use denote.Struct.Laws as LL
-use denote.Struct.Rest.{all-own, own-open}
+use denote.Struct.Rest.{all-own, own-open, own-put}
 use denote.Struct.Values.{Values}
 use denote.Triple.Statement.{Contract, Triple}
 use denote.Triple.Call.{calls-at}
-use denote.Triple.Entry.{Vals, onEntry}
+use denote.Triple.Entry.{onEntry}
 use denote.Triple.Spec.{Meets, tripleOf}
 use denote.Triple.Table.{entered, cited}
 use denote.Triple.Walked.{Stays, stay-none, walkOf, goes-none, Walks, ends-at, walked, walk-meets}
@@ -49,8 +50,21 @@ use Rattle.reading.proofs.reader.TableReader.Laws as T′
 abbrev pub reader : Lfts 1 → RattleType
 reader κs = T.the-row (namedLft 1 0 tt κs)
 
+-- what a reader owns, and what its fields own, at their machine values
+abbrev pub Own : Lft → TableReader → Fml
+Own κ d = reader (κ, tt) .own d (T′.lowered d ∷ [])
+
+abbrev pub slice : TableReader → Val
+slice d = sliceVal (d .bytes .ptr) (length (d .bytes .now))
+
+abbrev pub Fields : Lft → TableReader → Fml
+Fields κ d = owns (ShrSlice (named 0) κ u8 ∷ usize ∷ []) (d .bytes, (d .at, tt)) (slice d ∷ [], (vint w64 (d .at) ∷ [], tt))
+
+-- the reader at another place
+abbrev pub at-place : TableReader → ℕ → TableReader
+at-place d n = record { bytes = d .bytes; at = n }
+
 module _ {M : Type 1} (𝓤 : URA M) (H : Heap 𝓤) (A : Atoms 𝓤) (W : Given 𝓤 H A) (κ : Lft) (d : TableReader) where
-  -- the reader's type and laws, its fields' values, and their machine values
   abbrev D : Declared
   D = T.the-type (namedLft 1 0 tt (κ, tt))
 
@@ -60,19 +74,22 @@ module _ {M : Type 1} (𝓤 : URA M) (H : Heap 𝓤) (A : Atoms 𝓤) (W : Given
   abbrev parts : Values (D .parts)
   parts = (d .bytes, (d .at, tt))
 
-  abbrev Own : Fml
-  Own = reader (κ, tt) .own d (T′.lowered d ∷ [])
-
-  abbrev Fields : Fml
-  Fields = owns (ShrSlice (named 0) κ u8 ∷ usize ∷ []) (d .bytes, (d .at, tt)) (sliceVal (d .bytes .ptr) (length (d .bytes .now)) ∷ [], (vint w64 (d .at) ∷ [], tt))
+  twice : ent 𝓤 (sem 𝓤 H A (Own κ d)) (sep 𝓤 (sem 𝓤 H A (Own κ d)) (sem 𝓤 H A (Own κ d)))
+  twice = LL.copy D (T′.the-copy (namedLft 1 0 tt (κ, tt))) 𝓤 H A W .twice d (T′.lowered d ∷ [])
 
   -- what the reader owns gives what its fields own, and is kept
-  pub lends : ent 𝓤 (sem 𝓤 H A Own) (sep 𝓤 (sem 𝓤 H A Fields) (sem 𝓤 H A Own))
+  pub lends : ent 𝓤 (sem 𝓤 H A (Own κ d)) (sep 𝓤 (sem 𝓤 H A (Fields κ d)) (sem 𝓤 H A (Own κ d)))
   lends =
-      qed W (‵ Own ∷ []) ∵
-      use1 W (‵ Own ⊛ ‵ Own) (LL.copy D (T′.the-copy (namedLft 1 0 tt (κ, tt))) 𝓤 H A W .twice d (T′.lowered d ∷ [])) $ split ! $
+      qed W (‵ (Own κ d) ∷ []) ∵ use1 W (‵ (Own κ d) ⊛ ‵ (Own κ d)) twice $ split ! $
       use1 W (given (T′.lowered d ∷ [] ≡ T′.lowered d ∷ []) (‵ (all-own (D .parts) L parts))) (own-open 𝓤 H A W D L parts (T′.lowered d)) $
       learn ! (λ _. done !)
+
+  -- it gives what the reader at another place owns, and is kept
+  pub moves : (n : ℕ) → n < 2 ^ 64 → ent 𝓤 (sem 𝓤 H A (Own κ d)) (sep 𝓤 (sem 𝓤 H A (Own κ d)) (sem 𝓤 H A (Own κ (at-place d n))))
+  moves n fits =
+      qed W (‵ (Own κ d) ∷ []) ∵ use1 W (‵ (Own κ d) ⊛ ‵ (Own κ d)) twice $ split ! $ frame ! $
+      owned ! usize (Is usize) (uint-makes 𝓤 H A W w64) n _ (refl, fits) $ move ! (1 ∷ 0 ∷ []) $
+      by ! (own-put 𝓤 H A W D L 1 parts n (T′.lowered d))
 
 -- The MIR of the six: both fields are read into locals, and the function is called on them.
 abbrev handing : Ty → Name → Fn
@@ -147,14 +164,14 @@ module _ (result : Slot 1) where
         Post = walkOf 𝓤 H A whole-given stayed of-whole .post (((κ, tt), (q, tt), tt, (d, tt), (mach ∷ [], tt)), tt)
 
         -- what the function called is passed
-        abbrev to : (Called H A) .Ghost
+        abbrev to : Called H A .Ghost
         to = (
           (
             (κ, tt),
             (q, tt),
             tt,
             (d .bytes, (d .at, tt)),
-            (sliceVal (d .bytes .ptr) (length (d .bytes .now)) ∷ [], (vint w64 (d .at) ∷ [], tt)),
+            (slice d ∷ [], (vint w64 (d .at) ∷ [], tt)),
           ),
           tt,
         )
@@ -163,11 +180,11 @@ module _ (result : Slot 1) where
         Entry = sep 𝓤 (onEntry 𝓤 H A (whole-given .signature) (κ, tt) (q, tt) (d, tt) (mach ∷ [], tt)) Asked
 
         -- what the reader owns gives what the function called asks, and is kept
-        apart : ent 𝓤 Entry (sep 𝓤 ((Called H A) .pre to) (sem 𝓤 H A (Own 𝓤 H A W κ d)))
+        apart : ent 𝓤 Entry (sep 𝓤 (Called H A .pre to) (sem 𝓤 H A (Own κ d)))
         apart =
             qed W (((‵ (flft κ q) ⊛ ‵ ftrue) ⊛ ‵ (owns (reader (κ, tt) ∷ []) (d, tt) (mach ∷ [], tt))) ∷ raw Asked ∷ []) ∵
             split ! $ move ! (1 ∷ []) $ fsplit ! $
-            use1 W (‵ (Fields 𝓤 H A W κ d) ⊛ ‵ (Own 𝓤 H A W κ d)) (lends 𝓤 H A W κ d) $ split ! $
+            use1 W (‵ (Fields κ d) ⊛ ‵ (Own κ d)) (lends 𝓤 H A W κ d) $ split ! $
             -- [what the fields own; what the reader owns; true; the token; what is asked]
             move ! (2 ∷ []) $ drop ! $ move ! (2 ∷ 0 ∷ []) $ join ! $ move ! (0 ∷ 2 ∷ []) $ join ! $ done !
 
@@ -176,9 +193,9 @@ module _ (result : Slot 1) where
         clause r = exE 𝓤 _ (λ ws. snd∗ 𝓤 (sem 𝓤 H A (lasts parts-given (κ, tt) (d .bytes, (d .at, tt)) ws)) (Said r))
 
         exits : (r : Res) (u : Val)
-            → ent 𝓤 (⋆ 𝓤 H A (‵ (result .row (κ, tt) .own r (u ∷ [])) ∷ (‵ (flft κ q) ⊛ ‵ ftrue) ∷ raw (Said r) ∷ ‵ (Own 𝓤 H A W κ d) ∷ [])) (Post u)
+            → ent 𝓤 (⋆ 𝓤 H A (‵ (result .row (κ, tt) .own r (u ∷ [])) ∷ (‵ (flft κ q) ⊛ ‵ ftrue) ∷ raw (Said r) ∷ ‵ (Own κ d) ∷ [])) (Post u)
         exits r u =
-            qed W (‵ (result .row (κ, tt) .own r (u ∷ [])) ∷ (‵ (flft κ q) ⊛ ‵ ftrue) ∷ raw (Said r) ∷ ‵ (Own 𝓤 H A W κ d) ∷ []) ∵
+            qed W (‵ (result .row (κ, tt) .own r (u ∷ [])) ∷ (‵ (flft κ q) ⊛ ‵ ftrue) ∷ raw (Said r) ∷ ‵ (Own κ d) ∷ []) ∵
             suffices ! _ (ends-at 𝓤 H A whole-given stayed of-whole W (((κ, tt), (q, tt), tt, (d, tt), (mach ∷ [], tt)), tt) u r (tt, tt) (tt, tt)) $
             nothing ! $ move ! (4 ∷ 0 ∷ []) $ fjoin ! $ move ! (2 ∷ 0 ∷ 1 ∷ []) $ group ! 3 $ done !
 
@@ -192,7 +209,7 @@ module _ (result : Slot 1) where
               (init ! 2 refl (tt, wt .1 .0)) $
               assigns ! (of-opd ! (load ! (from ! (fld ! refl (stop !))) (look-in ! 4 (sub ! 1 refl (whole !))))) (from ! (stop !))
               (init ! 0 refl (tt, wt .1 .1 .0)) $
-              move ! (8 ∷ []) $ use1 W (raw ((Called H A) .pre to) ⊛ ‵ (Own 𝓤 H A W κ d)) apart $ split ! $
+              move ! (8 ∷ []) $ use1 W (raw (Called H A .pre to) ⊛ ‵ (Own κ d)) apart $ split ! $
               -- [what is asked; what the reader owns; _3; …; _2; …; _1; …; room for _0; …]
               calls-at ! fm (Called H A) known to
               (and-then ! (load ! (from ! (stop !)) (look ! 4 refl)) (and-then ! (load ! (from ! (stop !)) (look ! 2 refl)) (no-more !))) (λ u.

@@ -5,3 +5,4 @@ pub mod Begin
 pub mod Codes
 pub mod Accepted
 pub mod Apart
+pub mod HandsOn

@@ -1,5 +1,4 @@
--- The reader is taken apart, and `records::ends` is called on its fields (`Apart.antt`).
--- Assumes nothing.
+-- The reader is taken apart, and `records::ends` is called on its fields (`HandsOn.antt`).
 use mathlib.Core.List.{[], _∷_}
 use mathlib.Core.Path.{_≡_}
 use base.Logic.{emp}
@@ -9,7 +8,7 @@ use contract.Monad.{fact}
 use contract.Running.{givenOf}
 use denote.Plain.{bool-lawful}
 use denote.Ref.{now}
-use Rattle.reading.proofs.Apart.{hands-on}
+use Rattle.reading.proofs.HandsOn.{hands-on}
 use Rattle.reading.proofs.records.ends.Symbol as called
 use Rattle.reading.proofs.records.ends.Met as known
 use Rattle.reading.proofs.reader.at_end as own

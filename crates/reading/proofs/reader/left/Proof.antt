@@ -1,5 +1,4 @@
--- The reader is taken apart, and `records::rest` is called on its fields (`Apart.antt`).
--- Assumes nothing.
+-- The reader is taken apart, and `records::rest` is called on its fields (`HandsOn.antt`).
 use mathlib.Core.List.{[], _∷_}
 use mathlib.Core.Path.{_≡_}
 use Prim.Native.Nat.{_≤_}
@@ -10,7 +9,7 @@ use contract.Running.{givenOf}
 use denote.Builtin.{u8}
 use denote.Ref.{now}
 use denote.Slice.{shr-slice-lawful}
-use Rattle.reading.proofs.Apart.{hands-on}
+use Rattle.reading.proofs.HandsOn.{hands-on}
 use Rattle.reading.proofs.records.rest.Symbol as called
 use Rattle.reading.proofs.records.rest.Met as known
 use Rattle.reading.proofs.reader.left as own

@@ -1,6 +1,5 @@
 -- The reader is made of the bytes passed and 8. A `&[u8]` is Copy, so what it owns is had twice: once for the bytes at exit, and once inside
 -- the reader, beside what its place owns.
--- Assumes nothing.
 use mathlib.Core.Path.{refl}
 use Prim.Native.Nat.{ℕ}
 use mathlib.Core.List.{List, [], _∷_}
@@ -13,14 +12,14 @@ use base.Logic.{SProp, ent, emp, via, fst∗}
 use base.Fml.{Lft, Share, Fml, ftrue, flft}
 use prog.Memory.{Memory}
 use prog.Routine.{Routine}
-use prog.Wp.{Heap, Calls, Loops, WpFn, Tables}
+use prog.Wp.{Heap, Calls, Loops, WpFn}
 use ghost.Atoms.{Atoms}
 use contract.Monad.{Fun}
-use contract.Running.{givenOf, tables, tablesOf}
+use contract.Running.{givenOf}
 use types.Kit.{Given, ‵, raw, _⊛_, _$_, _∵_, !, qed, by, move, use1, split, fsplit, fjoin, suffices, frame}
 use types.Part.{agg}
-use types.Run.{look, init, forget, stop, from, load, lit, and-then, no-more, assigns, returns, enter, alloc1, alloc0, params1, pass1, pass0, free1, free0}
-use sound.WpLaws.{WpFn-mono}
+use types.Run.{look, init, forget, stop, from, load, lit, and-then, no-more, assigns}
+use types.Run.{returns, enter, alloc1, alloc0, params1, pass1, pass0, free1, free0}
 use denote.RattleType.{owns}
 use denote.Laws.{Is}
 use denote.Plain.{uint-makes}
@@ -31,11 +30,10 @@ use denote.Slice.{sliceVal, ShrSlice, slice-vals, shr-slice-tells, shr-slice-law
 use denote.Steps.{nothing, owned}
 use denote.Struct.Rest.{own-shut}
 use denote.Triple.Entry.{onEntry}
-use denote.Triple.Spec.{Meets, tripleOf}
-use denote.Triple.Table.{entered}
-use denote.Triple.Walked.{says, Stays, stay-none-slice, walkOf, goes-none-slice, Walks, ends-at, walked, walk-meets}
+use denote.Triple.Walked.{says, Stays, stay-none-slice, walkOf, goes-none-slice, Walks, ends-at, walked}
 use denote.Exit.{yes}
 use Rattle.reading.specs.declared.reader.TableReader.{TableReader}
+use Rattle.reading.proofs.Apart.{walk-proves}
 use Rattle.reading.proofs.reader.TableReader as T
 use Rattle.reading.proofs.reader.TableReader.Laws as T′
 use Rattle.reading.proofs.reader.made as made
@@ -86,19 +84,15 @@ module _ {M : Type 1} (𝓤 : URA M) (H : Heap 𝓤) (A : Atoms 𝓤) (W : Given
         (init ! 2 refl (tt, (typed .1, (record { fits = lit< tt }, tt)))) $
         returns ! (look ! 2 refl) $ forget ! 0 refl $ forget ! 2 refl $ move ! (2 ∷ 3 ∷ []) $ free1 ! $ free1 ! $ free0 ! $ by ! exits))
 
-module _ {M : Type 1} (𝓤 : URA M) (H : Heap 𝓤) (A : Atoms 𝓤) (W : Given 𝓤 H A) (mem : Memory → SProp 𝓤) (run : Routine → Fun 𝓤) where
-  walks : (C : Calls 𝓤 H) (Λ : Loops 𝓤 H) → Walks 𝓤 H A made.ended stayed (WpFn 𝓤 H C Λ code.function) (made.clauses 𝓤 H A mem run)
-  walks C Λ = walked 𝓤 H A made.ended stayed (made.clauses 𝓤 H A mem run) (WpFn 𝓤 H C Λ code.function)
-      (λ κs. (slice-vals, tt)) (λ κs. (shr-slice-tells (named 0) (κs .0) u8, tt))
-      (λ κs qs bounds a g are. via 𝓤 _ (fst∗ 𝓤 _ (emp 𝓤)) (walk 𝓤 H A W mem run (κs .0) (qs .0) (a .0) C Λ (are .0)))
-
-  meets : (𝓣 : Tables 𝓤 H) → Meets 𝓤 H A made.signature (WpFn 𝓤 H (𝓣 .C) (𝓣 .Λ) code.function) (made.spec 𝓤 H A mem run)
-  meets 𝓣 = walk-meets 𝓤 H A made.ended stayed W (goes-none-slice 𝓤 H A W 1 (0 ∷ []) tt (plain (λ _. u8)) yes, tt) (made.clauses 𝓤 H A mem run)
-      (WpFn 𝓤 H (𝓣 .C) (𝓣 .Λ) code.function) (WpFn-mono 𝓤 H (W .laws) 𝓣 code.function) (walks (𝓣 .C) (𝓣 .Λ))
+walks : {M : Type 1} (𝓤 : URA M) (H : Heap 𝓤) (A : Atoms 𝓤) (W : Given 𝓤 H A) (mem : Memory → SProp 𝓤) (run : Routine → Fun 𝓤)
+    (C : Calls 𝓤 H) (Λ : Loops 𝓤 H) → Walks 𝓤 H A made.ended stayed (WpFn 𝓤 H C Λ code.function) (made.clauses 𝓤 H A mem run)
+walks 𝓤 H A W mem run C Λ = walked 𝓤 H A made.ended stayed (made.clauses 𝓤 H A mem run) (WpFn 𝓤 H C Λ code.function)
+    (λ κs. (slice-vals, tt)) (λ κs. (shr-slice-tells (named 0) (κs .0) u8, tt))
+    (λ κs qs bounds a g are. via 𝓤 _ (fst∗ 𝓤 _ (emp 𝓤)) (walk 𝓤 H A W mem run (κs .0) (qs .0) (a .0) C Λ (are .0)))
 
 pub made-spec : {M : Type 1} → stated.statement M
-unfolding code.routine tablesOf
+unfolding code.routine
 made-spec 𝓤 H 𝓜 𝓖 𝓡 =
-    entered 𝓤 H (tripleOf 𝓤 H (𝓖 .A) made.signature (made.spec 𝓤 H (𝓖 .A) (𝓜 .mem) (𝓡 .run)))
-    (tables 𝓤 H 𝓜 𝓡 code.env .C) (tables 𝓤 H 𝓜 𝓡 code.env .Λ) name code.function (code.unfolded 𝓤 H 𝓜 𝓡)
-    (meets 𝓤 H (𝓖 .A) (givenOf 𝓤 H 𝓜 𝓖) (𝓜 .mem) (𝓡 .run) (tablesOf 𝓤 H 𝓜 (tables 𝓤 H 𝓜 𝓡 code.env)))
+    walk-proves 𝓤 H 𝓜 𝓖 𝓡 made.ended stayed (goes-none-slice 𝓤 H (𝓖 .A) (givenOf 𝓤 H 𝓜 𝓖) 1 (0 ∷ []) tt (plain (λ _. u8)) yes, tt)
+    (made.clauses 𝓤 H (𝓖 .A) (𝓜 .mem) (𝓡 .run)) code.env name code.function (code.unfolded 𝓤 H 𝓜 𝓡)
+    (walks 𝓤 H (𝓖 .A) (givenOf 𝓤 H 𝓜 𝓖) (𝓜 .mem) (𝓡 .run) _ _)

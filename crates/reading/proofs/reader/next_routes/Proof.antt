@@ -1,5 +1,4 @@
--- The reader is taken apart, and `records::routes` is called on its fields (`Apart.antt`).
--- Assumes nothing.
+-- The reader is taken apart, and `records::routes` is called on its fields (`HandsOn.antt`).
 use mathlib.Core.List.{[], _∷_}
 use mathlib.Core.Path.{_≡_}
 use mir.Syntax.{w8}
@@ -11,7 +10,7 @@ use denote.Plain.{uint-lawful}
 use denote.Ref.{now}
 use Rattle.reading.specs.Places.{AtTrains}
 use Rattle.reading.specs.Whole.{routesOf}
-use Rattle.reading.proofs.Apart.{hands-on}
+use Rattle.reading.proofs.HandsOn.{hands-on}
 use Rattle.reading.proofs.records.routes.Symbol as called
 use Rattle.reading.proofs.records.routes.Met as known
 use Rattle.reading.proofs.reader.next_routes as own

@@ -1,5 +1,4 @@
--- The reader is taken apart, and `records::trains` is called on its fields (`Apart.antt`).
--- Assumes nothing.
+-- The reader is taken apart, and `records::trains` is called on its fields (`HandsOn.antt`).
 use mathlib.Core.List.{[], _∷_}
 use mathlib.Core.Path.{_≡_}
 use contract.Monad.{fact}
@@ -11,7 +10,7 @@ use Rattle.rules.proofs.TrainPlan as Element
 use Rattle.rules.proofs.TrainPlan.Laws as Element′
 use Rattle.reading.specs.Places.{AtTrains}
 use Rattle.reading.specs.Whole.{trainsOf}
-use Rattle.reading.proofs.Apart.{hands-on}
+use Rattle.reading.proofs.HandsOn.{hands-on}
 use Rattle.reading.proofs.records.trains.Symbol as called
 use Rattle.reading.proofs.records.trains.Met as known
 use Rattle.reading.proofs.reader.next_trains as own

@@ -6,14 +6,15 @@ use native.Mathlib.Numerals.{add-one}
 use native.Mathlib.Omega.{arith}
 use lib.ListN.{length, getD, take, drop, replicate}
 use lib.Seq.{sets}
-use Rattle.rules.specs.File.{versionIn, decode, segmentSize, boxSize, trainSize, byteAt, segmentCount, boxCount, trainCount, segmentStart, boxStart, trainsFrom, trainStart, fileLength, segmentIn, planIn, trainPlanIn, routeIn}
+use Rattle.rules.specs.File.{versionIn, decode, segmentSize, boxSize, trainSize, byteAt, segmentCount, boxCount, trainCount}
+use Rattle.rules.specs.File.{segmentStart, boxStart, trainsFrom, trainStart, fileLength, segmentIn, planIn, trainPlanIn, routeIn}
 use Rattle.rules.specs.Rows.{filled}
 use Rattle.rules.proofs.Rows.{join-none, filled-none}
 use Rattle.rules.specs.declared.Segment.{Segment}
 use Rattle.rules.specs.declared.BoxPlan.{BoxPlan}
 use Rattle.rules.specs.declared.TrainPlan.{TrainPlan}
 use Rattle.reading.specs.Whole.{Whole, segmentsOf, boxesOf, trainsOf, routesUpTo, routesOf}
-use Rattle.reading.specs.Places.{Headed}
+use Rattle.reading.specs.Places.{AtSegments, AtBoxes, Headed}
 use Rattle.reading.proofs.Fill.{join-set}
 
 module _ (bytes : List ℕ) where
@@ -58,13 +59,28 @@ module _ (bytes : List ℕ) where
       let e : i + 1 + (trainCount bytes - (i + 1)) ≡ trainCount bytes = omega arith in
       omega (arith, w .exact, trains-more i, rw e at (trains-rise (i + 1) (trainCount bytes - (i + 1))))
 
-  -- The records of the file, by the bytes that they are read from.
-  pub segment-in : (i : ℕ) → segmentIn bytes (i + 1) ≡ record { a = getD bytes (8 + 2 * i) 0; b = getD bytes (8 + 2 * i + 1) 0 }
-  unfolding segmentIn byteAt
-  segment-in i = rw segment-start
+  -- The same by the place at which the segment records begin, and the box records.
+  pub segments-room : (from : ℕ) → AtSegments bytes from → from + 2 * getD bytes 5 0 ≤ length bytes
+  unfolding segmentCount byteAt
+  segments-room from h = omega (arith, h .place, segment-start 0, whole-boxes (h .whole))
 
-  pub plan-in : (i : ℕ) →
-      let at = 8 + 2 * getD bytes 5 0 + 5 * i in
+  pub boxes-room : (from : ℕ) → AtBoxes bytes from → from + 5 * getD bytes 6 0 ≤ length bytes
+  unfolding boxCount byteAt
+  boxes-room from h = omega (arith, h .place, box-start 0, whole-boxes (h .whole))
+
+  -- The records of the file, by the place at which they begin: the bytes that they are read from.
+  pub segment-in : (from i : ℕ) →
+      from ≡ segmentStart bytes 1 →
+      let at = from + 2 * i in
+      segmentIn bytes (i + 1) ≡ record { a = getD bytes at 0; b = getD bytes (at + 1) 0 }
+  unfolding segmentIn byteAt
+  segment-in from i e =
+      let f : segmentStart bytes (i + 1) ≡ from + 2 * i = omega (arith, segment-start i, segment-start 0) in
+      rw f
+
+  pub plan-in : (from i : ℕ) →
+      from ≡ boxStart bytes 1 →
+      let at = from + 5 * i in
       planIn bytes (i + 1)
       ≡ record {
         kind = getD bytes at 0;
@@ -73,8 +89,10 @@ module _ (bytes : List ℕ) where
         right = getD bytes (at + 3) 0;
         position = getD bytes (at + 4) 0;
       }
-  unfolding planIn byteAt segmentCount
-  plan-in i = rw box-start
+  unfolding planIn byteAt
+  plan-in from i e =
+      let f : boxStart bytes (i + 1) ≡ from + 5 * i = omega (arith, box-start i, box-start 0) in
+      rw f
 
   pub train-plan-in : (i at : ℕ) →
       at ≡ trainsFrom bytes i →

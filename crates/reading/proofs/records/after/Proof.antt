@@ -2,12 +2,15 @@
 use Prim.Native.Nat.{_*_, _≤_}
 use native.Mathlib.Nat.{mul-le-mul-right}
 use native.Mathlib.Omega.{arith}
-use borrow.Author.Needs.{needs}
+use mathlib.Core.Path.{refl}
 use Rattle.reading.proofs.records.after.Statement.{statement}
 use Rattle.reading.proofs.records.after.Tie as tie
 
 small : (c : tie.Start) → c .args .count * c .args .size ≤ 255 * c .args .size
 small c = mul-le-mul-right (c .args .size) (omega arith)
 
+returns : tie.Need-returns
+returns c = refl
+
 pub after-spec : {M : Type 1} → statement M
-after-spec = tie.close (tie.spec (λ c. omega (arith, small c)) (λ c. omega (arith, small c)) (λ c. search needs))
+after-spec = tie.close (tie.spec (λ c. omega (arith, small c)) (λ c. omega (arith, small c)) returns)

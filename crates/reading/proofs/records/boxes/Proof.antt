@@ -28,8 +28,8 @@ loop-holds c =
 loop-again : tie.Need-loop-again Inv-loop μ-loop
 loop-again c =
     let l = c .before .before .before .before .before .before in
-    let x = plan-in _ _ _ (l .before .before .pre .place) in
-    (omega arith, omega arith, omega arith, fill-more 96 noBoxPlan _ _ _ _ (omega arith) (l .loop .inv .3) (sym x))
+    let p = l .before .before .pre .place in
+    (omega arith, omega arith, omega arith, fill-more 96 noBoxPlan _ _ _ _ (omega arith) (l .loop .inv .3) (sym (plan-in _ _ _ p)))
 
 returns : tie.Need-returns Inv-loop μ-loop
 unfolding boxesOf boxCount byteAt

@@ -31,8 +31,8 @@ loop-holds c =
 loop-again : tie.Need-loop-again Inv-loop μ-loop
 loop-again c =
     let l = c .before .before .before in
-    let x = segment-in _ _ _ (l .before .before .pre .place) in
-    (omega arith, omega arith, omega arith, fill-more 96 noSegment _ _ _ _ (omega arith) (l .loop .inv .3) (sym x))
+    let p = l .before .before .pre .place in
+    (omega arith, omega arith, omega arith, fill-more 96 noSegment _ _ _ _ (omega arith) (l .loop .inv .3) (sym (segment-in _ _ _ p)))
 
 returns : tie.Need-returns Inv-loop μ-loop
 unfolding segmentsOf segmentCount byteAt

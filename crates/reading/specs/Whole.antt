@@ -10,7 +10,8 @@ use Rattle.rules.specs.declared.BoxPlan.{BoxPlan}
 use Rattle.rules.specs.declared.TrainPlan.{TrainPlan}
 use Rattle.rules.specs.Rows.{first, listOf, joinOf, filled}
 use Rattle.rules.specs.Track.{noSegment, noBoxPlan, noTrainPlan}
-use Rattle.rules.specs.File.{segmentCount, boxCount, trainCount, fileLength, earlyRows, segmentIn, planIn, trainPlanIn, routeIn, fileCode, decode}
+use Rattle.rules.specs.File.{segmentCount, boxCount, trainCount, fileLength, earlyRows, fileCode, decode}
+use Rattle.rules.specs.File.{segmentIn, planIn, trainPlanIn, routeIn}
 use Rattle.rules.specs.Line.{emptyTable}
 use Rattle.reading.specs.declared.Decided.{Decided}
 

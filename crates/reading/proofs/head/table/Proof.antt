@@ -1,8 +1,8 @@
--- The table is its parts.
+-- The numbers that the table reader is given are those of the head.
+use mathlib.Core.Path.{refl}
 use native.Mathlib.Omega.{arith}
-use borrow.Author.Needs.{needs}
 use Rattle.rules.specs.File.{byteAt, segmentCount, boxCount, trainCount}
-use Rattle.reading.proofs.Parts.{whole-boxes, decode-of}
+use Rattle.reading.proofs.Parts.{whole-boxes}
 use Rattle.reading.proofs.head.table.Statement.{statement}
 use Rattle.reading.proofs.head.table.Tie as tie
 
@@ -18,22 +18,16 @@ read-m c = omega (arith, whole-boxes _ (c .before .before .before .before .pre))
 read-k : tie.Need-shared-slice-read-k
 read-k c = omega (arith, whole-boxes _ (c .before .before .before .before .before .pre))
 
-returns : tie.Need-returns
+table-requires : tie.Need-table-requires
 unfolding segmentCount boxCount trainCount byteAt
-returns c =
-    let s = c .before .before .before in
-    decode-of _ _ _ _ _ _ (s .before .before .before .before .version .ensures) (s .segments .ensures) (c .before .before .boxes .ensures) (c .before .trains .ensures) (c .routes .ensures)
+table-requires c κs =
+    let v = c .before .before .before in
+    record {
+      whole = v .before .before .pre;
+      version-is = v .version .ensures;
+      counts = record { segments = refl; boxes = refl };
+      trains = refl;
+    }
 
 pub table-spec : {M : Type 1} → statement M
-table-spec =
-    tie.close
-    (tie.spec
-    version-requires
-    read-n
-    read-m
-    read-k
-    (λ c κs. search needs)
-    (λ c κs. search needs)
-    (λ c κs. search needs)
-    (λ c κs. search needs)
-    returns)
+table-spec = tie.close (tie.spec version-requires read-n read-m read-k table-requires (λ c. c .table .ensures))

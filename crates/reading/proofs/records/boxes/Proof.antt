@@ -5,34 +5,36 @@ use native.Mathlib.Omega.{arith}
 use lib.ListN.{length, getD}
 use Rattle.rules.specs.Rows.{filled, listOf}
 use Rattle.rules.specs.Track.{noBoxPlan}
-use Rattle.rules.specs.File.{byteAt, segmentCount, boxCount, planIn}
+use Rattle.rules.specs.File.{byteAt, boxCount, planIn}
+use Rattle.reading.specs.Whole.{boxesOf}
 use Rattle.reading.proofs.Fill.{fill-none, fill-more}
-use Rattle.reading.proofs.Parts.{whole-boxes, plan-in}
+use Rattle.reading.proofs.Parts.{whole-boxes, boxes-room, plan-in}
 use Rattle.reading.proofs.records.boxes.Statement.{statement}
 use Rattle.reading.proofs.records.boxes.Tie as tie
 
 abbrev Inv-loop : tie.InvT-loop
-Inv-loop bytes n m all₀ i₀ all i =
-    (i ≤ m) × (m ≤ 96) × (8 + 2 * n + 5 * m ≤ length bytes) × (all ≡ filled 96 noBoxPlan (listOf i (planIn bytes)))
+Inv-loop bytes from m all₀ i₀ all i =
+    (i ≤ m) × (m ≤ 96) × (from + 5 * m ≤ length bytes) × (all ≡ filled 96 noBoxPlan (listOf i (planIn bytes)))
 
 abbrev μ-loop : tie.MeasureT-loop
-μ-loop bytes n m all₀ i₀ all i = m - i
+μ-loop bytes from m all₀ i₀ all i = m - i
 
 loop-holds : tie.Need-loop-holds Inv-loop μ-loop
-unfolding segmentCount boxCount byteAt
+unfolding boxCount byteAt
 loop-holds c =
-    let w = c .before .before .pre in
-    (omega arith, omega (arith, w .boxes), omega (arith, whole-boxes _ w), fill-none 96 noBoxPlan _)
+    let h = c .before .pre in
+    (omega arith, omega (arith, h .whole .boxes), omega (arith, boxes-room _ _ h), fill-none 96 noBoxPlan _)
 
 loop-again : tie.Need-loop-again Inv-loop μ-loop
 loop-again c =
-    let l = c .before .before .before .before .before .before .loop in
-    (omega arith, omega arith, omega arith, fill-more 96 noBoxPlan _ _ _ _ (omega arith) (l .inv .3) (sym (plan-in _ _)))
+    let l = c .before .before .before .before .before .before in
+    let p = l .before .before .pre .place in
+    (omega arith, omega arith, omega arith, fill-more 96 noBoxPlan _ _ _ _ (omega arith) (l .loop .inv .3) (sym (plan-in _ _ _ p)))
 
 returns : tie.Need-returns Inv-loop μ-loop
-unfolding boxCount byteAt
+unfolding boxesOf boxCount byteAt
 returns c =
-    let e : c .before .loop .i ≡ getD (c .before .before .before .before .args .bytes .now) 6 0 = omega arith in
+    let e : c .before .loop .i ≡ getD (c .before .before .before .args .bytes .now) 6 0 = omega arith in
     rw (sym e) (c .before .loop .inv .3)
 
 pub boxes-spec : {M : Type 1} → statement M
@@ -41,13 +43,9 @@ boxes-spec =
     (tie.spec
     Inv-loop
     μ-loop
-    (λ c. omega (arith, whole-boxes _ (c .before .pre)))
-    (λ c. omega (arith, c .shared-slice-known .given 5))
-    (λ c. omega (arith, whole-boxes _ (c .before .before .pre)))
-    (λ c. omega (arith, c .shared-slice-known2 .given 6))
+    (λ c. omega (arith, whole-boxes _ (c .before .pre .whole)))
+    (λ c. omega (arith, c .shared-slice-known .given 6))
     loop-holds
-    (λ c. omega arith)
-    (λ c. omega arith)
     (λ c. omega arith)
     (λ c. omega arith)
     (λ c. omega arith)

@@ -60,7 +60,7 @@ fields d = (d .bytes, (d .at, tt))
 
 module _ (result : Slot 1) where
   -- the signature over the reader, and that over its fields
-  abbrev whole-given : Ended
+  abbrev pub whole-given : Ended
   whole-given = record {
     signature = record { lifetimes = 1; outlives = []; params = plain reader ∷ []; result = result };
     kept = (yes, tt);

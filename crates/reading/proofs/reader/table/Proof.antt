@@ -51,8 +51,9 @@ use Rattle.reading.specs.Whole.{segmentsOf, boxesOf, trainsOf, routesOf}
 use Rattle.reading.specs.Places.{AtSegments, AtBoxes, AtTrains, Headed}
 use Rattle.reading.specs.declared.reader.TableReader.{TableReader}
 use Rattle.reading.proofs.Parts.{segments-place, boxes-place, trains-place, decode-of}
-use Rattle.reading.proofs.reader.Calls.{reader, slice, sliceOf, token, Made, Past, Call, of-local, into, copies, frees-local, keeps, calls-told, calls-reader, making, passing, asking}
-use Rattle.reading.proofs.reader.Parts.{tableVal, table-is}
+use Rattle.reading.proofs.reader.Calls.{file, fileVal, OfFile, OfReader, token, Made, Past, Call}
+use Rattle.reading.proofs.reader.Calls.{of-local, into, copies, frees-local, keeps, calls-told, calls-reader, making, passing, asking}
+use Rattle.reading.proofs.reader.Record.{tableVal, table-is}
 use Rattle.reading.proofs.reader.made.Symbol as made-def
 use Rattle.reading.proofs.reader.made.Symbol.{name as #made}
 use Rattle.reading.proofs.reader.made.Met as made-thm
@@ -103,15 +104,12 @@ module _ {M : Type 1} (𝓤 : URA M) (H : Heap 𝓤) (A : Atoms 𝓤) (W : Given
   args = (b, (version, (n, (m, (k, tt)))))
 
   abbrev vals : Vals table.signature (κ, tt)
-  vals = (sliceOf b ∷ [], (vint w16 version ∷ [], (vint w8 n ∷ [], (vint w8 m ∷ [], (vint w8 k ∷ [], tt)))))
+  vals = (fileVal b ∷ [], (vint w16 version ∷ [], (vint w8 n ∷ [], (vint w8 m ∷ [], (vint w8 k ∷ [], tt)))))
 
   abbrev Post : Val → SProp 𝓤
   Post = walkOf 𝓤 H A table.ended stayed (table.clauses 𝓤 H A mem run) .post (((κ, tt), (q, tt), tt, args, vals), tt)
 
-  -- what the file owns, and what the numbers own
-  abbrev File : Fml
-  File = slice κ .own b (sliceOf b ∷ [])
-
+  -- what the numbers own
   abbrev Numbers : Fml
   Numbers = owns (u16 ∷ u8 ∷ u8 ∷ u8 ∷ []) (args .1) (vals .1)
 
@@ -128,22 +126,22 @@ module _ {M : Type 1} (𝓤 : URA M) (H : Heap 𝓤) (A : Atoms 𝓤) (W : Given
   stands-at-segments : AtSegments (now b) (at-segments .at)
   stands-at-segments = record { whole = headed .whole; place = sym (segments-place (now b)) }
 
-  abbrev reading-segments : (u : Val) → Call 𝓤 H A κ q (NextSegments 𝓤 H A mem run) (u ∷ []) (‵ (reader κ .own at-segments (u ∷ []))) (next-segments.signature .result .row (κ, tt)) (λ x. x ≡ segmentsOf (now b))
+  abbrev reading-segments : (u : Val) → Call 𝓤 H A κ q (NextSegments 𝓤 H A mem run) (u ∷ []) (‵ (OfReader κ at-segments u)) (next-segments.signature .result .row (κ, tt)) (λ x. x ≡ segmentsOf (now b))
   reading-segments u = asking 𝓤 H A W κ q (next-segments.signature .result) (next-segments.clauses 𝓤 H A mem run) at-segments u tt (factI 𝓤 _ (emp 𝓤) stands-at-segments) (λ x. x ≡ segmentsOf (now b)) (λ x ws. id⊢ 𝓤 _)
 
   stands-at-boxes : AtBoxes (now b) (at-boxes .at)
   stands-at-boxes = record { whole = headed .whole; place = sym (boxes-place (now b) n (headed .counts .segments)) }
 
-  abbrev reading-boxes : (u : Val) → Call 𝓤 H A κ q (NextBoxes 𝓤 H A mem run) (u ∷ []) (‵ (reader κ .own at-boxes (u ∷ []))) (next-boxes.signature .result .row (κ, tt)) (λ x. x ≡ boxesOf (now b))
+  abbrev reading-boxes : (u : Val) → Call 𝓤 H A κ q (NextBoxes 𝓤 H A mem run) (u ∷ []) (‵ (OfReader κ at-boxes u)) (next-boxes.signature .result .row (κ, tt)) (λ x. x ≡ boxesOf (now b))
   reading-boxes u = asking 𝓤 H A W κ q (next-boxes.signature .result) (next-boxes.clauses 𝓤 H A mem run) at-boxes u tt (factI 𝓤 _ (emp 𝓤) stands-at-boxes) (λ x. x ≡ boxesOf (now b)) (λ x ws. id⊢ 𝓤 _)
 
   stands-at-trains : AtTrains (now b) (at-trains .at)
   stands-at-trains = record { whole = headed .whole; place = sym (trains-place (now b) n m (headed .counts .segments) (headed .counts .boxes)) }
 
-  abbrev reading-trains : (u : Val) → Call 𝓤 H A κ q (NextTrains 𝓤 H A mem run) (u ∷ []) (‵ (reader κ .own at-trains (u ∷ []))) (next-trains.signature .result .row (κ, tt)) (λ x. x ≡ trainsOf (now b))
+  abbrev reading-trains : (u : Val) → Call 𝓤 H A κ q (NextTrains 𝓤 H A mem run) (u ∷ []) (‵ (OfReader κ at-trains u)) (next-trains.signature .result .row (κ, tt)) (λ x. x ≡ trainsOf (now b))
   reading-trains u = asking 𝓤 H A W κ q (next-trains.signature .result) (next-trains.clauses 𝓤 H A mem run) at-trains u tt (factI 𝓤 _ (emp 𝓤) stands-at-trains) (λ x. x ≡ trainsOf (now b)) (λ x ws. id⊢ 𝓤 _)
 
-  abbrev reading-routes : (u : Val) → Call 𝓤 H A κ q (NextRoutes 𝓤 H A mem run) (u ∷ []) (‵ (reader κ .own at-trains (u ∷ []))) (next-routes.signature .result .row (κ, tt)) (λ x. x ≡ routesOf (now b))
+  abbrev reading-routes : (u : Val) → Call 𝓤 H A κ q (NextRoutes 𝓤 H A mem run) (u ∷ []) (‵ (OfReader κ at-trains u)) (next-routes.signature .result .row (κ, tt)) (λ x. x ≡ routesOf (now b))
   reading-routes u = asking 𝓤 H A W κ q (next-routes.signature .result) (next-routes.clauses 𝓤 H A mem run) at-trains u tt (factI 𝓤 _ (emp 𝓤) stands-at-trains) (λ x. x ≡ routesOf (now b)) (λ x ws. id⊢ 𝓤 _)
 
   -- the table record of arrays, and its machine value
@@ -155,22 +153,22 @@ module _ {M : Type 1} (𝓤 : URA M) (H : Heap 𝓤) (A : Atoms 𝓤) (W : Given
       → Is Tb.the-row (tableOf segments boxes trains routes) (tableVal (tableOf segments boxes trains routes) u₉ u₁₀ u₁₁ u₁₂ ∷ [])
   built segments boxes trains routes u₉ u₁₀ u₁₁ u₁₂ = table-is (tableOf segments boxes trains routes) u₉ u₁₀ u₁₁ u₁₂ version-fits n-fits m-fits k-fits
 
-  exits : (t : Table) (u : Val) → Is Tb.the-row t (u ∷ []) → t ≡ decode (now b) → ent 𝓤 (⋆ 𝓤 H A (token 𝓤 κ q ∷ ‵ File ∷ ‵ Numbers ∷ [])) (Post u)
+  exits : (t : Table) (u : Val) → Is Tb.the-row t (u ∷ []) → t ≡ decode (now b) → ent 𝓤 (⋆ 𝓤 H A (token 𝓤 κ q ∷ ‵ (OfFile κ b) ∷ ‵ Numbers ∷ [])) (Post u)
   exits t u is e =
-      qed W (token 𝓤 κ q ∷ ‵ File ∷ ‵ Numbers ∷ []) ∵
+      qed W (token 𝓤 κ q ∷ ‵ (OfFile κ b) ∷ ‵ Numbers ∷ []) ∵
       suffices ! _ (ends-at 𝓤 H A table.ended stayed (table.clauses 𝓤 H A mem run) W (((κ, tt), (q, tt), tt, args, vals), tt) u t (tt, (tt, (tt, (tt, (tt, tt))))) (tt, (tt, (tt, (tt, (tt, tt)))))) $
       says ! e $ frame ! $ fjoin ! $ frame ! $ owned ! Tb.the-row (Is Tb.the-row) (LL.makes Tb.the-type Tb′.the-plain 𝓤 H A) t _ is $ done !
 
   module _ (C : Calls 𝓤 H) (Λ : Loops 𝓤 H) (fm : FmC 𝓤 H (W .laws) C) (known-made : Triple 𝓤 (C #made) (Made 𝓤 H A mem run)) (known-past : Triple 𝓤 (C #past) (Past 𝓤 H A mem run)) (known-segments : Triple 𝓤 (C #next-segments) (NextSegments 𝓤 H A mem run)) (known-boxes : Triple 𝓤 (C #next-boxes) (NextBoxes 𝓤 H A mem run)) (known-trains : Triple 𝓤 (C #next-trains) (NextTrains 𝓤 H A mem run)) (known-routes : Triple 𝓤 (C #next-routes) (NextRoutes 𝓤 H A mem run)) where
-    walk : Is (slice κ) b (sliceOf b ∷ []) → ent 𝓤 (onEntry 𝓤 H A table.signature (κ, tt) (q, tt) args vals)
-        (WpFn 𝓤 H C Λ code.function (sliceOf b ∷ vint w16 version ∷ vint w8 n ∷ vint w8 m ∷ vint w8 k ∷ []) Post)
+    walk : Is (file κ) b (fileVal b ∷ []) → ent 𝓤 (onEntry 𝓤 H A table.signature (κ, tt) (q, tt) args vals)
+        (WpFn 𝓤 H C Λ code.function (fileVal b ∷ vint w16 version ∷ vint w8 n ∷ vint w8 m ∷ vint w8 k ∷ []) Post)
     walk p =
-        qed W (token 𝓤 κ q ∷ ‵ (owns (slice κ ∷ u16 ∷ u8 ∷ u8 ∷ u8 ∷ []) args vals) ∷ []) ∵ enter ! C Λ code.function (sliceOf b ∷ vint w16 version ∷ vint w8 n ∷ vint w8 m ∷ vint w8 k ∷ []) _ $
+        qed W (token 𝓤 κ q ∷ ‵ (owns (file κ ∷ u16 ∷ u8 ∷ u8 ∷ u8 ∷ []) args vals) ∷ []) ∵ enter ! C Λ code.function (fileVal b ∷ vint w16 version ∷ vint w8 n ∷ vint w8 m ∷ vint w8 k ∷ []) _ $
         alloc1 ! (λ l₀. alloc1 ! (λ l₁. alloc1 ! (λ l₂. alloc1 ! (λ l₃. alloc1 ! (λ l₄. alloc1 ! (λ l₅. alloc1 ! (λ l₆. alloc1 ! (λ l₇. alloc1 ! (λ l₈. alloc1 ! (λ l₉. alloc1 ! (λ l₁₀. alloc1 ! (λ l₁₁. alloc1 ! (λ l₁₂. alloc1 ! (λ l₁₃. alloc1 ! (λ l₁₄. alloc1 ! (λ l₁₅. alloc1 ! (λ l₁₆. alloc1 ! (λ l₁₇. alloc1 ! (λ l₁₈. alloc0 ! $ params1 ! $
-        pass1 ! (init ! 34 refl (shr-slice-lawful 𝓤 H A W (named 0) κ u8 .typed b (sliceOf b ∷ []) p .0)) $ pass1 ! (init ! 32 refl (tt, record { fits = version-fits })) $
+        pass1 ! (init ! 34 refl (shr-slice-lawful 𝓤 H A W (named 0) κ u8 .typed b (fileVal b ∷ []) p .0)) $ pass1 ! (init ! 32 refl (tt, record { fits = version-fits })) $
         pass1 ! (init ! 30 refl (tt, record { fits = n-fits })) $ pass1 ! (init ! 28 refl (tt, record { fits = m-fits })) $ pass1 ! (init ! 26 refl (tt, record { fits = k-fits })) $ pass0 ! $
         -- [the locals, from _18 at 0 to _0 at 36; the token; what the parameters own]
-        move ! (39 ∷ []) $ fsplit ! $ use1 W (‵ File ⊛ ‵ File) (shr-slice-copy 𝓤 H A W (named 0) κ u8 .twice b (sliceOf b ∷ [])) $ split ! $ move ! (41 ∷ 0 ∷ []) $
+        move ! (39 ∷ []) $ fsplit ! $ use1 W (‵ (OfFile κ b) ⊛ ‵ (OfFile κ b)) (shr-slice-copy 𝓤 H A W (named 0) κ u8 .twice b (fileVal b ∷ [])) $ split ! $ move ! (41 ∷ 0 ∷ []) $
         -- [the token; the file; the file; the numbers; the locals, _i at 40 - 2 i]
         calls-reader ! fm known-made (making 𝓤 H A W mem run κ q b) (and-then ! (of-local ! 37 refl) (no-more !)) (λ u₆ t₆. into ! 28 refl (t₆ erased) $
         copies ! 28 14 refl refl (t₆ erased) $ keeps ! at-segments u₆ $

@@ -67,6 +67,16 @@ Fits u = (ℓ : Lifetime) → Holds (hasTy (T′.mir ℓ) u) × WT u
 abbrev pub Stands : RefT (List ℕ) → ℕ → TableReader → Type 0
 Stands bytes at r = (r .bytes ≡ bytes) × (r .at ≡ at)
 
+-- the readers at a file's first segment, box and train, by the counts of segments and boxes
+abbrev pub at-segments : RefT (List ℕ) → TableReader
+at-segments b = record { bytes = b; at = 8 }
+
+abbrev pub at-boxes : RefT (List ℕ) → ℕ → TableReader
+at-boxes b n = record { bytes = b; at = 8 + n * 2 }
+
+abbrev pub at-trains : RefT (List ℕ) → (n m : ℕ) → TableReader
+at-trains b n m = record { bytes = b; at = 8 + n * 2 + m * 5 }
+
 -- a lifetime's token, as a signature with one lifetime has it
 abbrev pub token : {M : Type 1} (𝓤 : URA M) → Lft → Share → Item 𝓤
 token 𝓤 κ s = ‵ (flft κ s) ⊛ ‵ ftrue
@@ -104,7 +114,8 @@ module _ {M : Type 1} {𝓤 : URA M} {H : Heap 𝓤} {A : Atoms 𝓤} {K : Type 
         → Step K W (put 𝓤 H A n (Holding 𝓤 H E fullShare i v) Γ) (runs C Λ E rest q) Γ (lands C Λ E (place i []) v rest q)
     into t n e typed = land t (from t (stop t)) (init t n e typed)
 
-    pub copies : K → {i j : ℕ} {s : Share} {v : Val} (n k : ℕ) → nth 𝓤 H A n Γ ≡ Holding 𝓤 H E s i v → nth 𝓤 H A k Γ ≡ Room 𝓤 H E j → HasType 𝓤 H E j v
+    pub copies : K → {i j : ℕ} {s : Share} {v : Val} (n k : ℕ) → nth 𝓤 H A n Γ ≡ Holding 𝓤 H E s i v
+        → nth 𝓤 H A k Γ ≡ Room 𝓤 H E j → HasType 𝓤 H E j v
         → Step K W (put 𝓤 H A k (Holding 𝓤 H E fullShare j v) Γ) (runs C Λ E rest q)
         Γ (runs C Λ E (seq (assign (place j []) (rvOpd (copy (place i [])))) rest) q)
     copies t n k e room typed = assigns t (of-opd t (of-local t n e)) (from t (stop t)) (init t k room typed)
@@ -173,7 +184,8 @@ module _ {M : Type 1} (𝓤 : URA M) (H : Heap 𝓤) (A : Atoms 𝓤) (W : Given
     at = (((κ, tt), (s, tt), tt, (b, tt), (fileVal b ∷ [], tt)), tt);
     passed = refl;
     asks =
-        qed W (token 𝓤 κ s ∷ ‵ (OfFile κ b) ∷ []) ∵ nothing ! $ move ! (2 ∷ 0 ∷ []) $ fjoin ! $ move ! (1 ∷ 0 ∷ []) $ join ! $ frame ! $ done !;
+        qed W (token 𝓤 κ s ∷ ‵ (OfFile κ b) ∷ []) ∵ nothing ! $ move ! (2 ∷ 0 ∷ []) $ fjoin ! $ move ! (1 ∷ 0 ∷ []) $ join ! $ frame ! $
+        done !;
     ensures = ensured 𝓤 H A made.ended (made.clauses 𝓤 H A mem run) (κ, tt) (b, tt) tt;
     gives = λ u. id⊢ 𝓤 _;
     tells = λ r. exE 𝓤 _ (λ ws. snd∗ 𝓤 (sem 𝓤 H A (lasts made.ended (κ, tt) (b, tt) ws)) (fact 𝓤 (Stands b 8 r)));

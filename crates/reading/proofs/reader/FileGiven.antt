@@ -43,7 +43,8 @@ module _ (result : Slot 1) where
 
   abbrev pub stayed : Stays (file-given .signature .params) (file-given .kept)
   stayed =
-      (stay-none-slice (0 ∷ []) tt (plain (λ _. u8)) yes, (stay-none (λ _. u8) yes, (stay-none (λ _. u8) yes, (stay-none (λ _. u8) yes, tt))))
+      let number = stay-none {n = 1} (λ _. u8) yes in
+      (stay-none-slice (0 ∷ []) tt (plain (λ _. u8)) yes, (number, (number, (number, tt))))
 
   pub goes : {M : Type 1} (𝓤 : URA M) (H : Heap 𝓤) (A : Atoms 𝓤) (W : Given 𝓤 H A)
       → AllGo 𝓤 H A W 1 (file-given .signature .params) (file-given .kept) stayed

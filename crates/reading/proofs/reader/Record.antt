@@ -20,7 +20,8 @@ use Rattle.rules.proofs.TrainPlan as TrainPlan-type
 
 -- Inside a struct an array's element is the tuple of its fields; its machine values stay the same.
 module _ (R S : RattleType) (to : R .Denot → S .Denot) (same : (x : R .Denot) (vs : List Val) → Is R x vs → Is S (to x) vs) where
-  each-as : (xs : List (R .Denot)) (us : List Val) → shadow (each (R .Denot) (R .own) xs us) → shadow (each (S .Denot) (S .own) (map to xs) us)
+  each-as : (xs : List (R .Denot)) (us : List Val) → shadow (each (R .Denot) (R .own) xs us)
+      → shadow (each (S .Denot) (S .own) (map to xs) us)
   each-as [] [] s = s
   each-as [] (u ∷ us) s = s
   each-as (x ∷ xs) [] s = s
@@ -29,7 +30,8 @@ module _ (R S : RattleType) (to : R .Denot → S .Denot) (same : (x : R .Denot) 
   array-as : (n : ℕ) (xs : List (R .Denot)) (vs : List Val) → Is (Array R n) xs vs → Is (Array S n) (map to xs) vs
   array-as n xs vs p = (p .0, ((p .1 .0 .0, length-map xs to ∙ p .1 .0 .1), each-as xs (p .0) (p .1 .1)))
 
-within : (T : Declared) (n : ℕ) (xs : List (T .D)) (vs : List Val) → Is (Array (row T) n) xs vs → Is (Array (Struct (shape T)) n) (map (T .to) xs) vs
+within : (T : Declared) (n : ℕ) (xs : List (T .D)) (vs : List Val) → Is (Array (row T) n) xs vs
+    → Is (Array (Struct (shape T)) n) (map (T .to) xs) vs
 within T = array-as (row T) (Struct (shape T)) (T .to) (λ x vs p. p)
 
 abbrev pub tableVal : Table → (segments boxes trains routes : Val) → Val

@@ -137,7 +137,8 @@ module _ (result : Slot 1) {M : Type 1} (𝓤 : URA M) (c : Clauses 𝓤 (file-g
             by ! (exits r u₀ told))))))))))
 
     walks : (callee : Name) (C : Calls 𝓤 H) (Λ : Loops 𝓤 H) → FmC 𝓤 H (W .laws) C
-        → Triple 𝓤 (C #behind-trains) (BehindTrains 𝓤 H A mem run) → Triple 𝓤 (C callee) (Called H A) → Walks 𝓤 H A (file-given result) (stayed result) (WpFn 𝓤 H C Λ (going ρ callee)) c
+        → Triple 𝓤 (C #behind-trains) (BehindTrains 𝓤 H A mem run) → Triple 𝓤 (C callee) (Called H A)
+        → Walks 𝓤 H A (file-given result) (stayed result) (WpFn 𝓤 H C Λ (going ρ callee)) c
     walks callee C Λ fm known-behind known =
         walked 𝓤 H A (file-given result) (stayed result) c (WpFn 𝓤 H C Λ (going ρ callee)) (spelled result) (told result)
         (λ κs qs bounds a g are. walk (κs .0) (qs .0) (a .0) (a .1 .0) (a .1 .1 .0) (a .1 .1 .1 .0) g callee C Λ fm known-behind known

@@ -91,6 +91,14 @@ fn left<'a>(r: TableReader<'a>) -> &'a [u8]
     records::rest(r.bytes, r.at)
 }
 
+// The reader behind the first `count` train records of a file, with the numbers of its head.
+fn behind_trains<'a>(bytes: &'a [u8], n: u8, m: u8, count: u8) -> TableReader<'a>
+    requires { ⌜ Counts (now bytes) n m ⌝ }
+    ensures { λ r. ⌜ (r .bytes ≡ bytes .entry) × (r .at ≡ trainsFrom (now (bytes .entry)) count) ⌝ }
+{
+    past_trains(past(past(made(bytes), n, 2), m, 5), count)
+}
+
 // The table record of a file that codes 1 to 5 let through, with the numbers of its head.
 pub(crate) fn table(bytes: &[u8], version: u16, n: u8, m: u8, k: u8) -> Table
     requires { ⌜ Headed (now bytes) version n m k ⌝ }
@@ -113,14 +121,6 @@ pub(crate) fn table(bytes: &[u8], version: u16, n: u8, m: u8, k: u8) -> Table
         trains,
         routes,
     }
-}
-
-// The reader behind the first `count` train records of a file, with the numbers of its head.
-fn behind_trains<'a>(bytes: &'a [u8], n: u8, m: u8, count: u8) -> TableReader<'a>
-    requires { ⌜ Counts (now bytes) n m ⌝ }
-    ensures { λ r. ⌜ (r .bytes ≡ bytes .entry) × (r .at ≡ trainsFrom (now (bytes .entry)) count) ⌝ }
-{
-    past_trains(past(past(made(bytes), n, 2), m, 5), count)
 }
 
 // The file ends where its last train record ends.

@@ -1,5 +1,5 @@
 -- The table record out of its parts: it has their machine values where its numbers fit and its arrays have theirs.
-use mathlib.Core.Path.{_≡_, refl, _∙_}
+use mathlib.Core.Path.{refl, _∙_}
 use Prim.Native.Nat.{ℕ, _<_, _^_}
 use mathlib.Core.List.{List, [], _∷_, map}
 use lib.ListN.{length-map}

@@ -134,7 +134,8 @@ module _ (result : Slot 1) where
         Ensured r = ensured 𝓤 H A parts-given c′ (κ, tt) (fields d) (follows .ghost (κ, tt) d g) r
 
         clause : (r : Res) → ent 𝓤 (Ensured r) (Said r)
-        clause r = exE 𝓤 _ (λ ws. via 𝓤 (c′ (κ, tt) (fields d) .ensures (follows .ghost (κ, tt) d g) r (atExit parts-given (κ, tt) (fields d) ws))
+        clause r = exE 𝓤 _ (λ ws.
+            via 𝓤 (c′ (κ, tt) (fields d) .ensures (follows .ghost (κ, tt) d g) r (atExit parts-given (κ, tt) (fields d) ws))
             (snd∗ 𝓤 (sem 𝓤 H A (lasts parts-given (κ, tt) (fields d) ws)) _) (follows .says (κ, tt) d g r ws))
 
         exits : (r : Res) (u : Val)

@@ -89,8 +89,9 @@ module _ {M : Type 1} (𝓤 : URA M) (H : Heap 𝓤) (A : Atoms 𝓤) (W : Given
   exits : (n : ℕ) → n ≡ next → n < 2 ^ 64 → ent 𝓤 Entry (Post (T′.lowered (at-place d n)))
   exits n e fits =
       qed W ((‵ (flft κ q) ⊛ ‵ ftrue) ∷ ‵ (owns (reader (κ, tt) ∷ u8 ∷ u8 ∷ []) (d, (count, (size, tt))) vals) ∷ []) ∵
-      suffices ! _ (ends-at 𝓤 H A past.ended stayed (past.clauses 𝓤 H A mem run) W (((κ, tt), (q, tt), tt, (d, (count, (size, tt))), vals), tt)
-      (T′.lowered (at-place d n)) (at-place d n) (tt, (tt, (tt, tt))) (tt, (tt, (tt, tt)))) $ says ! (refl, e) $
+      suffices ! _ (ends-at 𝓤 H A past.ended stayed (past.clauses 𝓤 H A mem run) W
+      (((κ, tt), (q, tt), tt, (d, (count, (size, tt))), vals), tt) (T′.lowered (at-place d n))
+      (at-place d n) (tt, (tt, (tt, tt))) (tt, (tt, (tt, tt)))) $ says ! (refl, e) $
       frame ! $ fsplit ! $ use1 W (‵ (Own κ d) ⊛ ‵ (Own κ (at-place d n))) (moves 𝓤 H A W κ d n fits) $ split ! $
       -- [what the reader owns; what the one returned owns; what the numbers own]
       move ! (0 ∷ 2 ∷ []) $ fjoin ! $ done !

@@ -64,7 +64,8 @@ module _ (bytes : List ℕ) where
       let e : 0 + trainCount bytes ≡ trainCount bytes = omega arith in
       omega (arith, w .exact, trains-none, rw e at (trains-rise 0 (trainCount bytes)))
 
-  whole-train : Whole bytes → (i : ℕ) → i < trainCount bytes → trainsFrom bytes i + 2 + byteAt bytes (trainsFrom bytes i + 1) ≤ length bytes
+  whole-train : Whole bytes → (i : ℕ) →
+      i < trainCount bytes → trainsFrom bytes i + 2 + byteAt bytes (trainsFrom bytes i + 1) ≤ length bytes
   unfolding fileLength
   whole-train w i h =
       let e : i + 1 + (trainCount bytes - (i + 1)) ≡ trainCount bytes = omega arith in

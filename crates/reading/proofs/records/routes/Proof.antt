@@ -1,6 +1,6 @@
 -- A turn copies one route. The invariant keeps that the trains left are within the file.
 use Prim.Native.Nat.{_+_, _-_, _*_, _≤_}
-use mathlib.Core.Path.{_≡_, sym, _∙_}
+use mathlib.Core.Path.{_≡_, sym}
 use native.Mathlib.Omega.{arith}
 use borrow.Author.Needs.{needs}
 use lib.ListN.{length, getD}
@@ -38,7 +38,7 @@ loop-again c =
     let l = c .before .before .before .before .before .loop in
     let n = trains-next _ _ _ (l .inv .3) in
     let r = routes-more _ _ _ _ _ (omega arith) (l .inv .3) (c .before .before .kept .ensures) (l .inv .4) in
-    (omega arith, omega arith, omega (arith, n, whole-rest _ w (l .i + 1) (omega arith)), n, c .copy .ensures ∙ r)
+    (omega arith, omega arith, omega (arith, n, whole-rest _ w (l .i + 1) (omega arith)), n, rw (c .copy .ensures) r)
 
 returns : tie.Need-returns Inv-loop μ-loop
 unfolding routesOf trainCount byteAt

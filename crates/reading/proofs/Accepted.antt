@@ -1,12 +1,13 @@
 -- What is decided of a file, the line that is read from it, and the routes of its trains.
 use Prim.Native.Nat.{ℕ, _+_, _-_, _≤_, _<_}
-use mathlib.Core.Path.{_≡_, sym, _∙_, ap}
+use mathlib.Core.Path.{_≡_, refl, sym, _∙_, ap}
 use mathlib.Core.List.{List, []}
 use native.Mathlib.Decide.{ℕ-discrete}
 use native.Mathlib.Omega.{arith}
 use borrow.Author.Tests.{lt-ltb, le-ltb, eq-eqb, ne-eqb}
 use lib.Dec.{eqb}
-use lib.ListN.{length, getD, take, drop}
+use lib.ListN.{length, getD, take, drop, length-drop}
+use lib.Seq.{getD-drop, drop-drop}
 use Rattle.rules.specs.declared.Table.{Table}
 use Rattle.rules.specs.declared.Line.{Line}
 use Rattle.rules.specs.Rows.{first, outside}
@@ -15,7 +16,7 @@ use Rattle.rules.specs.File.{byteAt, trainCount, trainsFrom, fileCode, decode, 
 use Rattle.rules.specs.Line.{emptyTable, emptyLine, startLine, read}
 use Rattle.rules.proofs.Tests.{or-right, outside-false-iff, first-zero-iff, first-code-iff}
 use Rattle.reading.specs.declared.Decided.{Decided}
-use Rattle.reading.specs.Whole.{earlyCode, decided}
+use Rattle.reading.specs.Whole.{earlyCode, Whole, decided}
 use Rattle.reading.specs.Start.{Counted}
 use Rattle.reading.proofs.Parts.{route-in, train-room}
 use Rattle.reading.proofs.Codes.{file-early, file-late, whole}
@@ -111,14 +112,26 @@ module _ (bytes : List ℕ) where
           let (file, (train, _)) = simp (first-code-iff, first-zero-iff, outside-false-iff) at z in
           (file, train)
 
-      pub part-some : (at size : ℕ) →
-          at ≡ trainsFrom bytes (i - 1) → size ≡ getD bytes (at + 1) 0 → take size (drop (at + 2) bytes) ≡ routePart bytes i
-      unfolding routePart
-      part-some at size e f =
-          let h : i - 1 + 1 ≡ i = omega (arith, within .1) in
-          rw (eq-eqb _ _ z, sym h, f) (sym (route-in bytes (i - 1) at e))
+      pub part-whole : Whole bytes
+      part-whole = whole bytes (accepted-early (within .0))
 
-      pub part-room : (at : ℕ) → at ≡ trainsFrom bytes (i - 1) → at + 2 + getD bytes (at + 1) 0 ≤ length bytes
+      -- The record of train i is within the file.
+      room :
+          let at = trainsFrom bytes (i - 1) in
+          at + 2 + getD bytes (at + 1) 0 ≤ length bytes
       unfolding trainCount byteAt
-      part-room at e =
-          train-room bytes (whole bytes (accepted-early (within .0))) (i - 1) at (omega (arith, within .1)) e
+      room = train-room bytes part-whole (i - 1) _ (omega (arith, within .1)) refl
+
+      pub part-place : trainsFrom bytes (i - 1) ≤ length bytes
+      part-place = omega (arith, room)
+
+      -- The file from that record on: the route is within it.
+      module _ (rest : List ℕ) (e : rest ≡ drop (trainsFrom bytes (i - 1)) bytes) where
+        pub part-room : 2 + getD rest 1 0 ≤ length rest
+        part-room = rw (e, getD-drop, length-drop) (omega (arith, room))
+
+        pub part-some : (size : ℕ) → size ≡ getD rest 1 0 → take size (drop 2 rest) ≡ routePart bytes i
+        unfolding routePart
+        part-some size f =
+            let h : i - 1 + 1 ≡ i = omega (arith, within .1) in
+            rw (eq-eqb _ _ z, f, e, getD-drop, drop-drop) (rw h at (sym (route-in bytes (i - 1) _ refl)))

@@ -4,3 +4,5 @@ pub mod Parts
 pub mod Begin
 pub mod Codes
 pub mod Accepted
+pub mod Apart
+pub mod HandsOn

@@ -5,8 +5,13 @@ use mathlib.Core.List.{List}
 use mathlib.Core.Path.{_≡_}
 use lib.Dec.{eqb}
 use lib.ListN.{length}
-use Rattle.rules.specs.Rows.{first, joinOf, filled}
-use Rattle.rules.specs.File.{segmentCount, boxCount, trainCount, fileLength, earlyRows, routeIn, fileCode, decode}
+use Rattle.rules.specs.declared.Segment.{Segment}
+use Rattle.rules.specs.declared.BoxPlan.{BoxPlan}
+use Rattle.rules.specs.declared.TrainPlan.{TrainPlan}
+use Rattle.rules.specs.Rows.{first, listOf, joinOf, filled}
+use Rattle.rules.specs.Track.{noSegment, noBoxPlan, noTrainPlan}
+use Rattle.rules.specs.File.{segmentCount, boxCount, trainCount, fileLength, earlyRows, fileCode, decode}
+use Rattle.rules.specs.File.{segmentIn, planIn, trainPlanIn, routeIn}
 use Rattle.rules.specs.Line.{emptyTable}
 use Rattle.reading.specs.declared.Decided.{Decided}
 
@@ -21,9 +26,21 @@ pub record Whole (bytes : List ℕ) : Type 0 where
   pub trains : trainCount bytes ≤ 16
   pub exact : length bytes ≡ fileLength bytes
 
--- The routes of the first j trains, 64 places a train, as an array of the table record.
+-- The arrays of the table record: segments, boxes, trains, and the routes of the first j trains, 64 places a train.
+unfoldable pub segmentsOf : List ℕ → List Segment
+segmentsOf bytes = filled 96 noSegment (listOf (segmentCount bytes) (segmentIn bytes))
+
+unfoldable pub boxesOf : List ℕ → List BoxPlan
+boxesOf bytes = filled 96 noBoxPlan (listOf (boxCount bytes) (planIn bytes))
+
+unfoldable pub trainsOf : List ℕ → List TrainPlan
+trainsOf bytes = filled 16 noTrainPlan (listOf (trainCount bytes) (trainPlanIn bytes))
+
 unfoldable pub routesUpTo : List ℕ → ℕ → List ℕ
 routesUpTo bytes j = filled 1024 0 (joinOf j (λ i. filled 64 0 (routeIn bytes i)))
+
+unfoldable pub routesOf : List ℕ → List ℕ
+routesOf bytes = routesUpTo bytes (trainCount bytes)
 
 -- The file's code, and its table where codes 1 to 5 let it through.
 unfoldable pub decided : List ℕ → Decided

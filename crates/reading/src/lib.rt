@@ -1,7 +1,8 @@
 // The reader: the bytes of a table file to the line at its start, or the first code of 1 to 12 that refuses it.
-mod body;
 pub mod empty;
 mod head;
+mod reader;
+mod records;
 mod start;
 
 use rules::Outcome;
@@ -28,7 +29,7 @@ fn decide(bytes: &[u8]) -> Decided
             table: empty::table(),
         };
     }
-    let table = body::table(bytes);
+    let table = head::table(bytes);
     let code = layout::table_code(table);
     Decided { code, table }
 }
@@ -78,9 +79,10 @@ pub fn route(bytes: &[u8], train: u8) -> &[u8]
     if route_code(bytes, train) != 0 {
         return &bytes[0..0];
     }
-    let at = head::trains_from(bytes, train - 1);
-    let start = at + 2;
-    let length = bytes[at + 1] as usize;
-    let end = at + 2 + length;
-    &bytes[start..end]
+    let n = bytes[5];
+    let m = bytes[6];
+    let part = reader::from_train(bytes, n, m, train - 1);
+    let length = part[1] as usize;
+    let end = 2 + length;
+    &part[2..end]
 }

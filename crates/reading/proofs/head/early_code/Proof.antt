@@ -1,10 +1,9 @@
 -- The codes in their order, by the tests that led to each return.
 use Prim.Native.Nat.{_≤_}
-use mathlib.Core.Path.{_≡_, sym, _∙_}
+use mathlib.Core.Path.{_≡_, refl, sym, _∙_}
 use mathlib.Core.Bool.{true}
-use native.Mathlib.Omega.{arith}
 use borrow.Author.Needs.{needs}
-use borrow.Author.Tests.{not-true, not-false}
+use borrow.Author.Tests.{not-true, not-false, eqb-true, eqb-false}
 use lib.ListN.{length}
 use Rattle.rules.specs.File.{byteAt, marked, segmentCount, boxCount, trainCount, fileLength}
 use Rattle.reading.proofs.Codes.{early-1, early-2, early-head, early-5, early-0}
@@ -30,14 +29,18 @@ returns-3 c =
     let h = head (v .before) in
     early-head _ (h .0) (h .1) _ _ (v .version .ensures) (c .before .head-code .ensures) (c .if3 .taken)
 
+ends-with-trains-requires : tie.Need-ends-with-trains-requires
+unfolding segmentCount boxCount byteAt
+ends-with-trains-requires c κs = record { segments = refl; boxes = refl }
+
 returns-4 : tie.Need-returns-4
 unfolding segmentCount boxCount trainCount fileLength byteAt
 returns-4 c =
     let z = c .before .before in
     let v = z .before .before .before .before .before in
     let h = head (v .before) in
-    early-5 _ (h .0) (h .1) _ _ (v .version .ensures) (z .before .head-code .ensures) (z .if3 .left)
-    (λ e. omega (arith, e, c .before .trains-from .ensures, c .if4 .taken))
+    let e = sym (c .before .ends-with-trains .ensures) ∙ not-true _ (c .if4 .taken) in
+    early-5 _ (h .0) (h .1) _ _ (v .version .ensures) (z .before .head-code .ensures) (z .if3 .left) (eqb-false _ _ e)
 
 returns-5 : tie.Need-returns-5
 unfolding segmentCount boxCount trainCount fileLength byteAt
@@ -45,8 +48,8 @@ returns-5 c =
     let z = c .before .before in
     let v = z .before .before .before .before .before in
     let h = head (v .before) in
-    early-0 _ (h .0) (h .1) _ _ (v .version .ensures) (z .before .head-code .ensures) (z .if3 .left)
-    (omega (arith, c .before .trains-from .ensures))
+    let e = sym (c .before .ends-with-trains .ensures) ∙ not-false _ (c .if4 .left) in
+    early-0 _ (h .0) (h .1) _ _ (v .version .ensures) (z .before .head-code .ensures) (z .if3 .left) (eqb-true _ _ e)
 
 pub early-code-spec : {M : Type 1} → statement M
 early-code-spec =
@@ -61,6 +64,6 @@ early-code-spec =
     (λ c. search needs)
     (λ c κs. search needs)
     returns-3
-    (λ c κs. search needs)
+    ends-with-trains-requires
     returns-4
     returns-5)

@@ -86,8 +86,8 @@ fn one_more(k: u8) -> u8 {
 
 // A train's code and route.
 fn add_route(file: &[u8], train: u8, out: &mut [u8], filled: usize) -> usize {
-    let code = reading::route_code(file, train);
-    add_answer(out, filled, code, reading::route(file, train))
+    let code = tablefile::route_code(file, train);
+    add_answer(out, filled, code, tablefile::route(file, train))
 }
 
 // A space, a code, a colon and bytes.

@@ -1,137 +1,25 @@
--- What is decided of a file, the line that is read from it, and the routes of its trains.
-use Prim.Native.Nat.{ℕ, _+_, _-_, _≤_, _<_}
-use mathlib.Core.Path.{_≡_, refl, sym, _∙_, ap}
-use mathlib.Core.List.{List, []}
-use native.Mathlib.Decide.{ℕ-discrete}
-use native.Mathlib.Omega.{arith}
-use borrow.Author.Tests.{lt-ltb, le-ltb, eq-eqb, ne-eqb}
-use lib.Dec.{eqb}
-use lib.ListN.{length, getD, take, drop, length-drop}
-use lib.Seq.{getD-drop, drop-drop}
-use Rattle.rules.specs.declared.Table.{Table}
+-- The line that is read from a file, by the file's code and table.
+use Prim.Native.Nat.{ℕ}
+use mathlib.Core.Path.{_≡_, sym}
+use mathlib.Core.List.{List}
+use borrow.Author.Tests.{eq-eqb, ne-eqb}
 use Rattle.rules.specs.declared.Line.{Line}
-use Rattle.rules.specs.Rows.{first, outside}
-use Rattle.rules.specs.Placing.{tableCode}
-use Rattle.rules.specs.File.{byteAt, trainCount, trainsFrom, fileCode, decode, routeCode, routePart}
-use Rattle.rules.specs.Line.{emptyTable, emptyLine, startLine, read}
-use Rattle.rules.proofs.Tests.{or-right, outside-false-iff, first-zero-iff, first-code-iff}
-use Rattle.reading.specs.declared.Decided.{Decided}
-use Rattle.reading.specs.Whole.{earlyCode, Whole, decided}
+use Rattle.rules.specs.Line.{emptyLine, startLine, read}
+use Rattle.tablefile.specs.declared.FileTable.{FileTable}
+use Rattle.tablefile.specs.Whole.{fileTable}
+use Rattle.tablefile.proofs.Files.{file-code, file-table, file-counts}
 use Rattle.reading.specs.Start.{Counted}
-use Rattle.reading.proofs.Parts.{route-in, train-room}
-use Rattle.reading.proofs.Codes.{file-early, file-late, whole}
 
-module _ (bytes : List ℕ) where
-  -- What is decided of a file that codes 1 to 5 refuse, and of one that they let through.
-  pub decided-early : (early : ℕ) (t : Table) →
-      early ≡ earlyCode bytes → (early ≡ 0 → ⊥) → t ≡ emptyTable → record { code = early; table = t } ≡ decided bytes
-  unfolding decided
-  decided-early early t e n z =
-      let f : fileCode bytes ≡ early = sym (e ∙ file-early bytes (λ y. n (e ∙ y))) in
-      rw (sym e, f, ne-eqb early 0 n, z)
+module _ (bytes : List ℕ) (d : FileTable) (s : d ≡ fileTable bytes) where
+  pub counted : d .code ≡ 0 → Counted (d .table)
+  counted e =
+      let few = file-counts bytes d s e in
+      record { boxes = few .0; trains = few .1 }
 
-  pub decided-late : (early code : ℕ) (t : Table) →
-      early ≡ earlyCode bytes →
-      early ≡ 0 →
-      t ≡ decode bytes →
-      code ≡ tableCode t →
-      record { code = code; table = t } ≡ decided bytes
-  unfolding decided
-  decided-late early code t e n z k =
-      let f : fileCode bytes ≡ code = sym (rw z at k ∙ file-late bytes (sym e ∙ n)) in
-      rw (sym e, f, eq-eqb early 0 n, z)
+  pub read-refused : (l : Line) → (d .code ≡ 0 → ⊥) → l ≡ emptyLine → record { code = d .code; line = l } ≡ read bytes
+  unfolding read
+  read-refused l n e = rw (sym (file-code bytes d s), ne-eqb _ _ n, e)
 
-  -- An accepted file: codes 1 to 5 let it through, and its table is decided.
-  accepted-early : fileCode bytes ≡ 0 → earlyCode bytes ≡ 0
-  accepted-early e =
-      elim (ℕ-discrete (earlyCode bytes) 0) [
-        | yes z ↦ z
-        | no n ↦ file-early bytes n ∙ e
-      ]
-
-  module _ (d : Decided) (s : d ≡ decided bytes) where
-    code-decided : d .code ≡ fileCode bytes
-    unfolding decided
-    code-decided = ap (λ (x : Decided). x .code) s
-
-    table-decided : d .code ≡ 0 → d .table ≡ decode bytes
-    unfolding decided
-    table-decided e = ap (λ (x : Decided). x .table) s ∙ rw (eq-eqb _ _ (accepted-early (sym code-decided ∙ e)))
-
-    pub counted : d .code ≡ 0 → Counted (d .table)
-    unfolding decode
-    counted e =
-        let w = whole bytes (accepted-early (sym code-decided ∙ e)) in
-        rw (table-decided e) (record { boxes = w .boxes; trains = w .trains })
-
-    pub read-refused : (l : Line) → (d .code ≡ 0 → ⊥) → l ≡ emptyLine → record { code = d .code; line = l } ≡ read bytes
-    unfolding read
-    read-refused l n e = rw (sym code-decided, ne-eqb _ _ n, e)
-
-    pub read-accepted : (l : Line) → d .code ≡ 0 → l ≡ startLine (d .table) → record { code = 0; line = l } ≡ read bytes
-    unfolding read
-    read-accepted l z e = rw (sym code-decided, eq-eqb _ _ z, e, table-decided z)
-
-    -- The code of train i's route.
-    module _ (i : ℕ) where
-      pub route-refused : (d .code ≡ 0 → ⊥) → d .code ≡ routeCode bytes i
-      unfolding routeCode first
-      route-refused n = rw (sym code-decided, ne-eqb _ _ n)
-
-      module _ (z : d .code ≡ 0) where
-        trains-decided : d .table .k ≡ trainCount bytes
-        unfolding decode
-        trains-decided = ap (λ (x : Table). x .k) (table-decided z)
-
-        pub route-none : i ≡ 0 → 14 ≡ routeCode bytes i
-        unfolding routeCode first outside
-        route-none e = rw (sym code-decided, eq-eqb _ _ z, eq-eqb _ _ e)
-
-        pub route-above : d .table .k < i → 14 ≡ routeCode bytes i
-        unfolding routeCode first outside
-        route-above l =
-            let h : trainCount bytes < i = omega (arith, trains-decided) in
-            rw (sym code-decided, eq-eqb _ _ z, or-right (eqb i 0) _ (lt-ltb _ _ h))
-
-        pub route-within : (i ≡ 0 → ⊥) → i ≤ d .table .k → 0 ≡ routeCode bytes i
-        unfolding routeCode first outside
-        route-within n l =
-            let h : i ≤ trainCount bytes = omega (arith, trains-decided) in
-            rw (sym code-decided, eq-eqb _ _ z, ne-eqb _ _ n, le-ltb _ _ h)
-
-  -- The route of train i as a part of the file: empty where it is refused, else a part that is within the file.
-  module _ (i : ℕ) where
-    pub part-none : (routeCode bytes i ≡ 0 → ⊥) → [] ≡ routePart bytes i
-    unfolding routePart
-    part-none n = rw (ne-eqb _ _ n)
-
-    module _ (z : routeCode bytes i ≡ 0) where
-      pub within : (fileCode bytes ≡ 0) × ((1 ≤ i) × (i ≤ trainCount bytes))
-      unfolding routeCode
-      within =
-          let (file, (train, _)) = simp (first-code-iff, first-zero-iff, outside-false-iff) at z in
-          (file, train)
-
-      pub part-whole : Whole bytes
-      part-whole = whole bytes (accepted-early (within .0))
-
-      -- The record of train i is within the file.
-      room :
-          let at = trainsFrom bytes (i - 1) in
-          at + 2 + getD bytes (at + 1) 0 ≤ length bytes
-      unfolding trainCount byteAt
-      room = train-room bytes part-whole (i - 1) _ (omega (arith, within .1)) refl
-
-      pub part-place : trainsFrom bytes (i - 1) ≤ length bytes
-      part-place = omega (arith, room)
-
-      -- The file from that record on: the route is within it.
-      module _ (rest : List ℕ) (e : rest ≡ drop (trainsFrom bytes (i - 1)) bytes) where
-        pub part-room : 2 + getD rest 1 0 ≤ length rest
-        part-room = rw (e, getD-drop, length-drop) (omega (arith, room))
-
-        pub part-some : (size : ℕ) → size ≡ getD rest 1 0 → take size (drop 2 rest) ≡ routePart bytes i
-        unfolding routePart
-        part-some size f =
-            let h : i - 1 + 1 ≡ i = omega (arith, within .1) in
-            rw (eq-eqb _ _ z, f, e, getD-drop, drop-drop) (rw h at (sym (route-in bytes (i - 1) _ refl)))
+  pub read-accepted : (l : Line) → d .code ≡ 0 → l ≡ startLine (d .table) → record { code = 0; line = l } ≡ read bytes
+  unfolding read
+  read-accepted l z e = rw (sym (file-code bytes d s), eq-eqb _ _ z, e, file-table bytes d s z)

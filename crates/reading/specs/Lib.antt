@@ -1,4 +1,2 @@
 -- What the inner functions of this crate compute; the public ones are stated by the definitions of `rules`.
-pub mod Whole
 pub mod Start
-pub mod Places

@@ -1,0 +1,128 @@
+-- The table of a file, and the routes of its trains.
+use Prim.Native.Nat.{ℕ, _+_, _-_, _≤_, _<_}
+use mathlib.Core.Path.{_≡_, refl, sym, _∙_, ap}
+use mathlib.Core.List.{List, []}
+use native.Mathlib.Decide.{ℕ-discrete}
+use native.Mathlib.Omega.{arith}
+use borrow.Author.Tests.{lt-ltb, le-ltb, eq-eqb, ne-eqb}
+use lib.Dec.{eqb}
+use lib.ListN.{length, getD, take, drop, length-drop}
+use lib.Seq.{getD-drop, drop-drop}
+use Rattle.rules.specs.declared.Table.{Table}
+use Rattle.rules.specs.Rows.{first, outside}
+use Rattle.rules.specs.Placing.{tableCode}
+use Rattle.rules.specs.File.{byteAt, trainCount, trainsFrom, fileCode, decode, routeCode, routePart}
+use Rattle.rules.specs.Line.{emptyTable}
+use Rattle.rules.proofs.Tests.{or-right, outside-false-iff, first-zero-iff, first-code-iff}
+use Rattle.tablefile.specs.declared.FileTable.{FileTable}
+use Rattle.tablefile.specs.Whole.{earlyCode, Whole, fileTable}
+use Rattle.tablefile.proofs.Parts.{route-in, train-room}
+use Rattle.tablefile.proofs.Codes.{file-early, file-late, whole}
+
+module _ (bytes : List ℕ) where
+  -- A file that codes 1 to 5 refuse, and one that they let through.
+  pub file-refused-early : (early : ℕ) (t : Table) →
+      early ≡ earlyCode bytes → (early ≡ 0 → ⊥) → t ≡ emptyTable → record { code = early; table = t } ≡ fileTable bytes
+  unfolding fileTable
+  file-refused-early early t e n z =
+      let f : fileCode bytes ≡ early = sym (e ∙ file-early bytes (λ y. n (e ∙ y))) in
+      rw (sym e, f, ne-eqb early 0 n, z)
+
+  pub file-by-its-table : (early code : ℕ) (t : Table) →
+      early ≡ earlyCode bytes →
+      early ≡ 0 →
+      t ≡ decode bytes →
+      code ≡ tableCode t →
+      record { code = code; table = t } ≡ fileTable bytes
+  unfolding fileTable
+  file-by-its-table early code t e n z k =
+      let f : fileCode bytes ≡ code = sym (rw z at k ∙ file-late bytes (sym e ∙ n)) in
+      rw (sym e, f, eq-eqb early 0 n, z)
+
+  -- An accepted file: codes 1 to 5 let it through, and its table is the file's.
+  accepted-early : fileCode bytes ≡ 0 → earlyCode bytes ≡ 0
+  accepted-early e =
+      elim (ℕ-discrete (earlyCode bytes) 0) [
+        | yes z ↦ z
+        | no n ↦ file-early bytes n ∙ e
+      ]
+
+  module _ (d : FileTable) (s : d ≡ fileTable bytes) where
+    pub file-code : d .code ≡ fileCode bytes
+    unfolding fileTable
+    file-code = ap (λ (x : FileTable). x .code) s
+
+    pub file-table : d .code ≡ 0 → d .table ≡ decode bytes
+    unfolding fileTable
+    file-table e = ap (λ (x : FileTable). x .table) s ∙ rw (eq-eqb _ _ (accepted-early (sym file-code ∙ e)))
+
+    -- The counts of boxes and trains are within the arrays.
+    pub file-counts : d .code ≡ 0 → (d .table .m ≤ 96) × (d .table .k ≤ 16)
+    unfolding decode
+    file-counts e =
+        let w = whole bytes (accepted-early (sym file-code ∙ e)) in
+        rw (file-table e) (w .boxes, w .trains)
+
+    -- The code of train i's route.
+    module _ (i : ℕ) where
+      pub route-refused : (d .code ≡ 0 → ⊥) → d .code ≡ routeCode bytes i
+      unfolding routeCode first
+      route-refused n = rw (sym file-code, ne-eqb _ _ n)
+
+      module _ (z : d .code ≡ 0) where
+        file-trains : d .table .k ≡ trainCount bytes
+        unfolding decode
+        file-trains = ap (λ (x : Table). x .k) (file-table z)
+
+        pub route-none : i ≡ 0 → 14 ≡ routeCode bytes i
+        unfolding routeCode first outside
+        route-none e = rw (sym file-code, eq-eqb _ _ z, eq-eqb _ _ e)
+
+        pub route-above : d .table .k < i → 14 ≡ routeCode bytes i
+        unfolding routeCode first outside
+        route-above l =
+            let h : trainCount bytes < i = omega (arith, file-trains) in
+            rw (sym file-code, eq-eqb _ _ z, or-right (eqb i 0) _ (lt-ltb _ _ h))
+
+        pub route-within : (i ≡ 0 → ⊥) → i ≤ d .table .k → 0 ≡ routeCode bytes i
+        unfolding routeCode first outside
+        route-within n l =
+            let h : i ≤ trainCount bytes = omega (arith, file-trains) in
+            rw (sym file-code, eq-eqb _ _ z, ne-eqb _ _ n, le-ltb _ _ h)
+
+  -- The route of train i as a part of the file: empty where it is refused, else a part that is within the file.
+  module _ (i : ℕ) where
+    pub part-none : (routeCode bytes i ≡ 0 → ⊥) → [] ≡ routePart bytes i
+    unfolding routePart
+    part-none n = rw (ne-eqb _ _ n)
+
+    module _ (z : routeCode bytes i ≡ 0) where
+      pub within : (fileCode bytes ≡ 0) × ((1 ≤ i) × (i ≤ trainCount bytes))
+      unfolding routeCode
+      within =
+          let (file, (train, _)) = simp (first-code-iff, first-zero-iff, outside-false-iff) at z in
+          (file, train)
+
+      pub part-whole : Whole bytes
+      part-whole = whole bytes (accepted-early (within .0))
+
+      -- The record of train i is within the file.
+      room :
+          let at = trainsFrom bytes (i - 1) in
+          at + 2 + getD bytes (at + 1) 0 ≤ length bytes
+      unfolding trainCount byteAt
+      room = train-room bytes part-whole (i - 1) _ (omega (arith, within .1)) refl
+
+      pub part-place : trainsFrom bytes (i - 1) ≤ length bytes
+      part-place = omega (arith, room)
+
+      -- The file from that record on: the route is within it.
+      module _ (rest : List ℕ) (e : rest ≡ drop (trainsFrom bytes (i - 1)) bytes) where
+        pub part-room : 2 + getD rest 1 0 ≤ length rest
+        part-room = rw (e, getD-drop, length-drop) (omega (arith, room))
+
+        pub part-some : (size : ℕ) → size ≡ getD rest 1 0 → take size (drop 2 rest) ≡ routePart bytes i
+        unfolding routePart
+        part-some size f =
+            let h : i - 1 + 1 ≡ i = omega (arith, within .1) in
+            rw (eq-eqb _ _ z, f, e, getD-drop, drop-drop) (rw h at (sym (route-in bytes (i - 1) _ refl)))

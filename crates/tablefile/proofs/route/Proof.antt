@@ -1,0 +1,64 @@
+-- The part is empty where the route's code is not 0, and within the file where it is.
+use Prim.Native.Nat.{_+_, _-_, _≤_}
+use mathlib.Core.Path.{_≡_, refl, sym, _∙_}
+use native.Mathlib.Omega.{arith}
+use borrow.Author.Needs.{needs}
+use lib.ListN.{length, getD}
+use Rattle.rules.specs.File.{byteAt, segmentCount, boxCount, routeCode}
+use Rattle.tablefile.proofs.Parts.{whole-boxes}
+use Rattle.tablefile.proofs.Files.{within, part-none, part-whole, part-place, part-room, part-some}
+use Rattle.tablefile.proofs.route.Statement.{statement}
+use Rattle.tablefile.proofs.route.Tie as tie
+
+returns : tie.Need-returns
+returns c = part-none _ _ (λ e. c .before .if1 .taken (c .before .before .route-code .ensures ∙ e))
+
+-- The route's code is 0 past the test.
+taken : (c : tie.Else1) → routeCode (c .before .before .before .args .bytes .now) (c .before .before .before .args .train) ≡ 0
+taken c = sym (c .before .route-code .ensures) ∙ c .if1 .left
+
+read-n : tie.Need-shared-slice-read-n
+read-n c = omega (arith, whole-boxes _ (part-whole _ _ (taken (c .before))))
+
+read-m : tie.Need-shared-slice-read-m
+read-m c = omega (arith, whole-boxes _ (part-whole _ _ (taken (c .before .before))))
+
+sub-from-train : tie.Need-sub-from-train
+sub-from-train c = within _ _ (taken (c .before .before)) .1 .0
+
+from-train-requires : tie.Need-from-train-requires
+unfolding segmentCount boxCount byteAt
+from-train-requires c κs = (record { segments = refl; boxes = refl }, part-place _ _ (taken (c .before .before)))
+
+-- The route's bytes are within what is left of the file.
+room : (c : tie.After-from-train) →
+    let rest = c .from-train .result .now in
+    2 + getD rest 1 0 ≤ length rest
+room c = part-room _ _ (taken (c .before .before .before)) _ (c .from-train .ensures)
+
+returns-2 : tie.Need-returns-2
+returns-2 c =
+    let f = c .before .before in
+    let size = getD (f .from-train .result .now) 1 0 in
+    part-some _ _ (taken (f .before .before .before)) _ (f .from-train .ensures) (2 + size - 2) (omega arith)
+
+pub route-spec : {M : Type 1} → statement M
+route-spec =
+    tie.close
+    (tie.spec
+    (λ c κs. search needs)
+    (λ c. search needs)
+    (λ c. search needs)
+    (λ c. search needs)
+    returns
+    read-n
+    read-m
+    sub-from-train
+    from-train-requires
+    (λ c. omega (arith, room (c .before)))
+    (λ c. omega (arith, c .shared-slice-known4 .given 1))
+    (λ c. omega (arith, c .shared-slice-known4 .given 1))
+    (λ c. omega arith)
+    (λ c. omega arith)
+    (λ c. omega (arith, room (c .before)))
+    returns-2)

@@ -59,11 +59,10 @@ fn with_table(line: Line, table: Table) -> Line {
 }
 
 // The high and the low byte of the version, n, m and k.
-fn change_head(before: Table, field: u8, value: u8) -> Table {
-    let mut table = before;
+fn change_head(mut table: Table, field: u8, value: u8) -> Table {
     match field {
-        0 => table.version = (value as u16) * 256 + before.version % 256,
-        1 => table.version = before.version / 256 * 256 + value as u16,
+        0 => table.version = (value as u16) * 256 + table.version % 256,
+        1 => table.version = table.version / 256 * 256 + value as u16,
         2 => table.n = value,
         3 => table.m = value,
         4 => table.k = value,
@@ -73,104 +72,103 @@ fn change_head(before: Table, field: u8, value: u8) -> Table {
 }
 
 // A segment's A end and B end.
-fn change_segment(before: Table, index: usize, field: u8, value: u8) -> Table {
-    let mut table = before;
-    if index >= 96 {
-        return table;
-    }
-    let s = table.segments[index];
-    match field {
-        0 => table.segments[index] = Segment { a: value, b: s.b },
-        1 => table.segments[index] = Segment { a: s.a, b: value },
-        _ => {}
+fn change_segment(mut table: Table, index: usize, field: u8, value: u8) -> Table {
+    if index < 96 {
+        table.segments[index] = segment_after(table.segments[index], field, value);
     }
     table
 }
 
-// A box in the table: kind, stem, left, right, position.
-fn change_plan(before: Table, index: usize, field: u8, value: u8) -> Table {
-    let mut table = before;
-    if index >= 96 {
-        return table;
+fn segment_after(s: Segment, field: u8, value: u8) -> Segment {
+    Segment {
+        a: if field == 0 { value } else { s.a },
+        b: if field == 1 { value } else { s.b },
     }
-    let p = table.boxes[index];
-    table.boxes[index] = BoxPlan {
+}
+
+// A box in the table: kind, stem, left, right, position.
+fn change_plan(mut table: Table, index: usize, field: u8, value: u8) -> Table {
+    if index < 96 {
+        table.boxes[index] = plan_after(table.boxes[index], field, value);
+    }
+    table
+}
+
+fn plan_after(p: BoxPlan, field: u8, value: u8) -> BoxPlan {
+    BoxPlan {
         kind: if field == 0 { value } else { p.kind },
         stem: if field == 1 { value } else { p.stem },
         left: if field == 2 { value } else { p.left },
         right: if field == 3 { value } else { p.right },
         position: if field == 4 { value } else { p.position },
-    };
-    table
+    }
 }
 
 // A train in the table: direction and length.
-fn change_train_plan(before: Table, index: usize, field: u8, value: u8) -> Table {
-    let mut table = before;
-    if index >= 16 {
-        return table;
+fn change_train_plan(mut table: Table, index: usize, field: u8, value: u8) -> Table {
+    if index < 16 {
+        table.trains[index] = train_plan_after(table.trains[index], field, value);
     }
-    let d = table.trains[index];
-    table.trains[index] = TrainPlan {
-        direction: if field == 0 { value } else { d.direction },
-        length: if field == 1 { value } else { d.length },
-    };
     table
 }
 
+fn train_plan_after(d: TrainPlan, field: u8, value: u8) -> TrainPlan {
+    TrainPlan {
+        direction: if field == 0 { value } else { d.direction },
+        length: if field == 1 { value } else { d.length },
+    }
+}
+
 // The segment at a place, from 0, of a train's route in the table.
-fn change_table_route(before: Table, index: usize, place: u8, value: u8) -> Table {
-    let mut table = before;
-    if index >= 16 {
-        return table;
+fn change_table_route(mut table: Table, index: usize, place: u8, value: u8) -> Table {
+    if index < 16 {
+        if place < 64 {
+            table.routes[64 * index + place as usize] = value;
+        }
     }
-    if place >= 64 {
-        return table;
-    }
-    table.routes[64 * index + place as usize] = value;
     table
 }
 
 // The segment at a place, from 0, of a train's route in force.
-fn change_route(before: Line, index: usize, place: u8, value: u8) -> Line {
-    let mut line = before;
-    if index >= 16 {
-        return line;
+fn change_route(mut line: Line, index: usize, place: u8, value: u8) -> Line {
+    if index < 16 {
+        if place < 64 {
+            line.routes[64 * index + place as usize] = value;
+        }
     }
-    if place >= 64 {
-        return line;
-    }
-    line.routes[64 * index + place as usize] = value;
     line
 }
 
 // A switch box: sensor (0 passive), position, lock, and the holders at stem, left and right.
-fn change_box(before: Line, index: usize, field: u8, value: u8) -> Line {
-    let mut line = before;
-    if index >= 96 {
-        return line;
+fn change_box(mut line: Line, index: usize, field: u8, value: u8) -> Line {
+    if index < 96 {
+        line.boxes[index] = box_after(line.boxes[index], field, value);
     }
-    let x = line.boxes[index];
-    line.boxes[index] = SwitchBox {
+    line
+}
+
+fn box_after(x: SwitchBox, field: u8, value: u8) -> SwitchBox {
+    SwitchBox {
         sensor: if field == 0 { value != 0 } else { x.sensor },
         position: if field == 1 { value } else { x.position },
         lock: if field == 2 { value } else { x.lock },
         stem: if field == 3 { value } else { x.stem },
         left: if field == 4 { value } else { x.left },
         right: if field == 5 { value } else { x.right },
-    };
-    line
+    }
 }
 
 // A train: direction, length, place, covered, and whether near end, far end and lock are recorded (0 not).
-fn change_train(before: Line, index: usize, field: u8, value: u8) -> Line {
-    let mut line = before;
-    if index >= 16 {
-        return line;
+fn change_train(mut line: Line, index: usize, field: u8, value: u8) -> Line {
+    if index < 16 {
+        line.trains[index] = train_after(line.trains[index], field, value);
     }
-    let r = line.trains[index];
+    line
+}
+
+fn train_after(r: Train, field: u8, value: u8) -> Train {
     let message = r.message;
-    line.trains[index] = Train {
+    Train {
         direction: if field == 0 { value } else { r.direction },
         length: if field == 1 { value } else { r.length },
         place: if field == 2 { value } else { r.place },
@@ -179,20 +177,21 @@ fn change_train(before: Line, index: usize, field: u8, value: u8) -> Line {
         far: if field == 5 { value != 0 } else { r.far },
         lock: if field == 6 { value != 0 } else { r.lock },
         message,
-    };
-    line
+    }
 }
 
 // A train's message.
-fn change_message(before: Line, index: usize, field: u8, value: u8) -> Line {
-    let mut line = before;
-    if index >= 16 {
-        return line;
+fn change_message(mut line: Line, index: usize, field: u8, value: u8) -> Line {
+    if index < 16 {
+        line.trains[index] = with_message(line.trains[index], field, value);
     }
-    let r = line.trains[index];
+    line
+}
+
+fn with_message(r: Train, field: u8, value: u8) -> Train {
     let old = r.message;
     let message = message_after(old, field, value);
-    line.trains[index] = Train {
+    Train {
         direction: r.direction,
         length: r.length,
         place: r.place,
@@ -201,8 +200,7 @@ fn change_message(before: Line, index: usize, field: u8, value: u8) -> Line {
         far: r.far,
         lock: r.lock,
         message,
-    };
-    line
+    }
 }
 
 // None; a reservation or a lock of box `value`, sent; the same, answered yes; or the answer's code.

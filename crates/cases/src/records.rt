@@ -28,13 +28,27 @@ pub(crate) fn decide_next(corpus: &[u8], place: Place, base: &mut [u8], out: &mu
     }
     let number = two_bytes(corpus[next + 1], corpus[next + 2]);
     let after = moved(place, next + 3, place.filled);
-    match corpus[next] {
-        b'F' => whole(corpus, after, number, base, out),
-        b'P' => front(corpus, after, number, base, out),
-        b'C' => changed(corpus, after, number, base, out),
-        b'S' => steps(corpus, after, number, base, out),
-        b'M' => made_up(corpus, after, number, base, out),
-        _ => end(corpus, after),
+    decide_record(corpus[next], number, corpus, after, base, out)
+}
+
+// Decides the record of this kind and number.
+fn decide_record(
+    kind: u8,
+    number: usize,
+    corpus: &[u8],
+    place: Place,
+    base: &mut [u8],
+    out: &mut [u8],
+) -> Place
+    requires { ⌜ place .next ≤ length (now corpus) ⌝ }
+{
+    match kind {
+        b'F' => whole(corpus, place, number, base, out),
+        b'P' => front(corpus, place, number, base, out),
+        b'C' => changed(corpus, place, number, base, out),
+        b'S' => steps(corpus, place, number, base, out),
+        b'M' => made_up(corpus, place, number, base, out),
+        _ => end(corpus, place),
     }
 }
 
@@ -146,21 +160,12 @@ fn steps(corpus: &[u8], place: Place, bytes: usize, base: &[u8], out: &mut [u8])
     }
 }
 
-// A step on the line that the first `taken` bytes of the last list of steps lead to, with changes: their number, the changes of four
-// bytes each, and the step.
+// A step on the line that the first `taken` bytes of the last list of steps lead to, with changes.
 fn made_up(corpus: &[u8], place: Place, taken: usize, base: &[u8], out: &mut [u8]) -> Place
     requires { ⌜ place .next ≤ length (now corpus) ⌝ }
 {
-    let from = place.next;
     let size = place.size;
     let steps = place.steps;
-    if from >= corpus.len() {
-        return end(corpus, place);
-    }
-    let changes = 4 * wide(corpus[from]);
-    if corpus.len() - from < changes + 4 {
-        return end(corpus, place);
-    }
     if taken > place.length {
         return end(corpus, place);
     }
@@ -173,11 +178,32 @@ fn made_up(corpus: &[u8], place: Place, taken: usize, base: &[u8], out: &mut [u8
     if size > base.len() {
         return end(corpus, place);
     }
+    made_up_after(
+        &base[0..size],
+        &corpus[steps..steps + taken],
+        corpus,
+        place,
+        out,
+    )
+}
+
+// The same for this file and these steps: the number of changes, the changes of four bytes each, and the step.
+fn made_up_after(file: &[u8], steps: &[u8], corpus: &[u8], place: Place, out: &mut [u8]) -> Place
+    requires { ⌜ place .next ≤ length (now corpus) ⌝ }
+{
+    let from = place.next;
+    if from >= corpus.len() {
+        return end(corpus, place);
+    }
+    let changes = 4 * wide(corpus[from]);
+    if corpus.len() - from < changes + 4 {
+        return end(corpus, place);
+    }
     let first = from + 1;
     let last = first + changes;
     let filled = add_made_up(
-        &base[0..size],
-        &corpus[steps..steps + taken],
+        file,
+        steps,
         &corpus[first..last],
         corpus[last],
         corpus[last + 1],

@@ -6,6 +6,7 @@ use crate::changes::altered;
 use crate::numbers::add_line;
 use crate::text::add;
 use crate::text::add_decimal;
+use rules::Line;
 
 // Room for the answers to each list of steps of a corpus.
 const ROOM: usize = 4096;
@@ -54,7 +55,15 @@ fn add_run(file: &[u8], steps: &[u8], buffer: &mut [u8], out: &mut [u8], filled:
     add_line(line, out, spaced)
 }
 
-// The line after some steps, with changes; then one step on it: its code, and the line after it.
+// The line after some steps, with changes.
+fn made_up(file: &[u8], steps: &[u8], changes: &[u8]) -> Line {
+    let mut buffer = [UNUSED; ROOM];
+    let start = engine::run(file, steps, &mut buffer);
+    let reached = start.line;
+    altered(reached, changes)
+}
+
+// One step on such a line: its code, and the line after it.
 pub(crate) fn add_made_up(
     file: &[u8],
     steps: &[u8],
@@ -65,10 +74,7 @@ pub(crate) fn add_made_up(
     out: &mut [u8],
     filled: usize,
 ) -> usize {
-    let mut buffer = [UNUSED; ROOM];
-    let start = engine::run(file, steps, &mut buffer);
-    let reached = start.line;
-    let line = altered(reached, changes);
+    let line = made_up(file, steps, changes);
     let outcome = engine::step(line, kind, train, at);
     let coded = add_decimal(out, filled, outcome.code);
     let spaced = add(out, coded, b' ');

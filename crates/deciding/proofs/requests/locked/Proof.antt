@@ -1,10 +1,17 @@
--- The fields one by one.
-use borrow.Author.Needs.{needs}
+-- The position is the one for the lock.
+use Prim.Native.Nat.{ℕ}
+use mathlib.Core.Path.{ap}
+use Rattle.rules.specs.declared.SwitchBox.{SwitchBox}
 use Rattle.deciding.proofs.requests.locked.Statement.{statement}
 use Rattle.deciding.proofs.requests.locked.Tie as tie
 
 returns : tie.Need-returns
-returns c = cc
+returns c =
+    let x = c .before .args .x in
+    ap {B = SwitchBox}
+    (λ (position : ℕ).
+    record { sensor = x .sensor; position = position; lock = c .before .args .v .number; stem = x .stem; left = x .left; right = x .right })
+    (c .position-for .ensures)
 
 pub locked-spec : {M : Type 1} → statement M
-locked-spec = tie.close (tie.spec (λ c κs. search needs) returns)
+locked-spec = tie.close (tie.spec (λ c κs. tt) returns)

@@ -124,7 +124,7 @@ module _ (l : Line) (i : ℕ) (r : Train) (b : ℕ) (x : SwitchBox) where
   every-box P this all c = nth-either P (l .boxes) b x noBox this all c
 
 -- What stood there put back changes nothing.
-pub box-back : (l : Line) (b : ℕ) → putBox l b (boxAt l b) ≡ l
+box-back : (l : Line) (b : ℕ) → putBox l b (boxAt l b) ≡ l
 unfolding putBox boxAt
 box-back l b = rw (set-back (l .boxes) b noBox)
 

@@ -7,11 +7,11 @@ use lib.ListN.{length, getD, List·getD-eq-default}
 use Rattle.rules.proofs.Rows.{from-length, from-at}
 use Rattle.layout.specs.Ends.{column}
 
-pub column-length : (f : ℕ → ℕ) → length (column f) ≡ 256
+column-length : (f : ℕ → ℕ) → length (column f) ≡ 256
 unfolding column
 column-length f = from-length f 256 0
 
-pub column-at : (f : ℕ → ℕ) (x : ℕ) → x < 256 → getD (column f) x 0 ≡ f x
+column-at : (f : ℕ → ℕ) (x : ℕ) → x < 256 → getD (column f) x 0 ≡ f x
 unfolding column
 column-at f x l = let e : 0 + x ≡ x = omega arith in from-at f 256 0 x 0 l ∙ ap f e
 

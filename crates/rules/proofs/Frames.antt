@@ -45,7 +45,7 @@ module _ {ℓ} {A : Type ℓ} where
   set-length l (suc i) a = length-set l i a
 
   -- What holds of the i-th as replaced and of all as they were holds of all, whether there is an i-th or not.
-  set-either : (P : A → Type 0) (l : List A) (i j : ℕ) (a d : A) → (j ≡ i → P a) → P (getD l j d) → P (getD (set l i a) j d)
+  pub set-either : (P : A → Type 0) (l : List A) (i j : ℕ) (a d : A) → (j ≡ i → P a) → P (getD l j d) → P (getD (set l i a) j d)
   set-either P [] i j a d h k = k
   set-either P (x ∷ l) zero zero a d h k = h refl
   set-either P (x ∷ l) zero (suc j) a d h k = k

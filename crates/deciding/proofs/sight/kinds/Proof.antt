@@ -5,7 +5,7 @@ use native.Mathlib.Omega.{arith}
 use borrow.Author.Needs.{needs}
 use Rattle.rules.proofs.Rows.{length-mapped}
 use Rattle.layout.specs.Ends.{column}
-use Rattle.layout.proofs.Laws.{Filled, fill-start, fill-turn, fill-end}
+use Rattle.layout.proofs.Column.{Filled, fill-start, fill-turn, fill-end}
 use Rattle.deciding.specs.Sight.{kindOf}
 use Rattle.deciding.proofs.Sights.{kind-none, kind-past, kind-at}
 use Rattle.deciding.proofs.sight.kinds.Statement.{statement}

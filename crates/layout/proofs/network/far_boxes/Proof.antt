@@ -6,7 +6,8 @@ use native.Mathlib.Omega.{arith}
 use borrow.Author.Needs.{needs}
 use Rattle.rules.proofs.Rows.{length-mapped}
 use Rattle.layout.specs.Ends.{column, farEnd}
-use Rattle.layout.proofs.Laws.{Filled, fill-start, fill-turn, fill-end, far-none, far-past, far-a, far-b}
+use Rattle.layout.proofs.Column.{Filled, fill-start, fill-turn, fill-end}
+use Rattle.layout.proofs.Laws.{far-none, far-past, far-a, far-b}
 use Rattle.layout.proofs.network.far_boxes.Statement.{statement}
 use Rattle.layout.proofs.network.far_boxes.Tie as tie
 

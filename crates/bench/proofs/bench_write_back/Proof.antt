@@ -7,19 +7,10 @@ use borrow.Author.Needs.{needs}
 use Rattle.bench.proofs.bench_write_back.Statement.{statement}
 use Rattle.bench.proofs.bench_write_back.Tie as tie
 
-read-requires : tie.Need-read-requires
-read-requires c κs = search needs
-
-write-requires : tie.Need-write-requires
-write-requires c κs = search needs
-
-same-length : tie.Need-same-length
-same-length c = search needs
-
 returns : tie.Need-returns
 returns c =
     let e = ap (λ (o : Outcome). o .line .table) (c .before .before .before .before .before .before .read .ensures) in
     (c .before .before .write .ensures .0 ∙ ap (λ (t : Table). writeCode t (c .before .before .before .before .before .before .before .before .before .args .buffer .now)) e, c .before .before .write .ensures .1 ∙ ap (λ (t : Table). written t (c .before .before .before .before .before .before .before .before .before .args .buffer .now)) e)
 
 pub bench-write-back-spec : {M : Type 1} → statement M
-bench-write-back-spec = tie.close (tie.spec read-requires write-requires same-length returns)
+bench-write-back-spec = tie.close (tie.spec (λ c κs. search needs) (λ c κs. search needs) (λ c. search needs) returns)

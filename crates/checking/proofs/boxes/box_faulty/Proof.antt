@@ -5,9 +5,6 @@ use Rattle.checking.specs.Faults.{boxFaultWith}
 use Rattle.checking.proofs.boxes.box_faulty.Statement.{statement}
 use Rattle.checking.proofs.boxes.box_faulty.Tie as tie
 
-position-fits-requires : tie.Need-position-fits-requires
-position-fits-requires c κs = search needs
-
 returns : tie.Need-returns
 unfolding boxFaultWith
 returns c = search tests depth 12
@@ -30,4 +27,4 @@ returns-5 c = search tests depth 12
 
 pub box-faulty-spec : {M : Type 1} → statement M
 box-faulty-spec =
-    tie.close (tie.spec position-fits-requires returns returns-2 returns-3 returns-4 returns-5)
+    tie.close (tie.spec (λ c κs. search needs) returns returns-2 returns-3 returns-4 returns-5)

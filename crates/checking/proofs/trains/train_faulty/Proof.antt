@@ -6,15 +6,9 @@ use Rattle.checking.proofs.Laws.{faulty-route, last-message}
 use Rattle.checking.proofs.trains.train_faulty.Statement.{statement}
 use Rattle.checking.proofs.trains.train_faulty.Tie as tie
 
-shape-faulty-requires : tie.Need-shape-faulty-requires
-shape-faulty-requires c κs = search needs
-
 returns : tie.Need-returns
 unfolding trainFaultIn
 returns c = search tests depth 20 fits 20000
-
-route-faulty-requires : tie.Need-route-faulty-requires
-route-faulty-requires c κs = search needs
 
 returns-2 : tie.Need-returns-2
 returns-2 c = faulty-route _ _ _ _ _ _ _ _ (c .before .route-faulty .ensures) (c .if2 .taken)
@@ -39,9 +33,6 @@ returns-7 : tie.Need-returns-7
 unfolding trainFaultIn
 returns-7 c = search tests depth 20 fits 20000
 
-message-faulty-requires : tie.Need-message-faulty-requires
-message-faulty-requires c κs = search needs
-
 returns-8 : tie.Need-returns-8
 returns-8 c =
     let few = c .before in
@@ -57,14 +48,14 @@ pub train-faulty-spec : {M : Type 1} → statement M
 train-faulty-spec =
     tie.close
     (tie.spec
-    shape-faulty-requires
+    (λ c κs. search needs)
     returns
-    route-faulty-requires
+    (λ c κs. search needs)
     returns-2
     returns-3
     returns-4
     returns-5
     returns-6
     returns-7
-    message-faulty-requires
+    (λ c κs. search needs)
     returns-8)

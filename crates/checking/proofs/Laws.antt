@@ -1,12 +1,12 @@
 -- What code 27 says of a line, in the words of the functions that test it.
-use Prim.Native.Nat.{ℕ, _+_, _≤_}
+use Prim.Native.Nat.{ℕ, _+_, _≤_, _<_}
 use mathlib.Core.Path.{_≡_, refl}
 use mathlib.Core.Bool.{Bool, true, false, not, _||_}
 use mathlib.Core.List.{List}
 use native.Mathlib.Decide.{ℕ-discrete}
 use native.Mathlib.Omega.{arith}
 use borrow.Author.Tests.{ne-eqb, le-ltb}
-use lib.Dec.{eqb}
+use lib.Dec.{eqb, ltb}
 use lib.ListN.{length, getD}
 use Rattle.rules.specs.declared.Request.{Request}
 use Rattle.rules.specs.declared.Request.the-variants.{Reserve, Lock}
@@ -18,7 +18,7 @@ use Rattle.rules.specs.declared.Train.{Train}
 use Rattle.rules.specs.declared.Around.{Around}
 use Rattle.rules.specs.declared.Line.{Line}
 use Rattle.rules.specs.Rows.{first, nth}
-use Rattle.rules.specs.Track.{noBoxPlan, planAt, farBox}
+use Rattle.rules.specs.Track.{noBoxPlan, planAt, farBox, positionFits}
 use Rattle.rules.specs.Placing.{routeShapeFault, tableCode}
 use Rattle.rules.specs.Line.{noTrain, noBox, around, trainAt, boxAt}
 use Rattle.rules.specs.Steps.{addressRows}
@@ -84,14 +84,43 @@ module _ (v : Around) (r : Train) (g : Message) where
     unfolding messageFault
     message-answered c y e f h = rw e (or-last _ _ _ (answered _ _ _ told f) (not-same _ _ h))
 
--- A train whose route is at fault, and one of which all but its message is fine; s, q and z are what functions answered.
+-- A train that fails one of the tests, one by one, and one of which all but its message is fine; s, q and z are what functions
+-- answered.
 module _ (n : ℕ) (a b kinds routes : List ℕ) (i : ℕ) (r : Train) where
-  pub faulty-route : (q : Bool) → q ≡ routeFaultIn n a b routes i (r .direction) (r .length) → q ≡ true
-      → true ≡ trainFaultIn n a b kinds routes i r
+  abbrev Faulty : Type 0
+  Faulty = true ≡ trainFaultIn n a b kinds routes i r
+
+  pub faulty-shape : (s : Bool) → s ≡ routeShapeFault (r .direction) (r .length) → s ≡ true → Faulty
+  unfolding trainFaultIn
+  faulty-shape s e f =
+      let found : routeShapeFault (r .direction) (r .length) ≡ true = answered _ _ _ e f in
+      search tests depth 12
+
+  pub faulty-route : (q : Bool) → q ≡ routeFaultIn n a b routes i (r .direction) (r .length) → q ≡ true → Faulty
   unfolding trainFaultIn
   faulty-route q e f =
       let found : routeFaultIn n a b routes i (r .direction) (r .length) ≡ true = answered _ _ _ e f in
       search tests depth 12
+
+  pub before-route : r .place ≡ 0 → Faulty
+  unfolding trainFaultIn
+  before-route h = search tests depth 12
+
+  pub beyond-route : r .length < r .place → Faulty
+  unfolding trainFaultIn
+  beyond-route h = search tests depth 12
+
+  pub tail-before-route : r .place < r .covered → Faulty
+  unfolding trainFaultIn
+  tail-before-route h = search tests depth 12
+
+  pub none-covered : r .covered ≡ 0 → Faulty
+  unfolding trainFaultIn
+  none-covered h = search tests depth 12
+
+  pub many-covered : 2 < r .covered → Faulty
+  unfolding trainFaultIn
+  many-covered h = search tests depth 12
 
   pub last-message : (s q z : Bool)
       → s ≡ routeShapeFault (r .direction) (r .length)
@@ -110,6 +139,19 @@ module _ (n : ℕ) (a b kinds routes : List ℕ) (i : ℕ) (r : Train) where
       let shaped : routeShapeFault (r .direction) (r .length) ≡ false = answered _ _ _ e f in
       let follows : routeFaultIn n a b routes i (r .direction) (r .length) ≡ false = answered _ _ _ g h in
       search tests depth 12
+
+-- A box of which all but the holder at its right is fine; f is what a function answered of its position.
+pub last-holder : (k : ℕ) (p : BoxPlan) (x : SwitchBox) (f z : Bool)
+    → f ≡ positionFits p (x .position)
+    → not f ≡ false
+    → x .lock ≤ k
+    → x .stem ≤ k
+    → x .left ≤ k
+    → z ≡ ltb k (x .right)
+    → z ≡ boxFaultWith k p x
+unfolding boxFaultWith
+last-holder k p x f z e fits lock stem left right =
+    rw (← e, fits, le-ltb _ _ lock, le-ltb _ _ stem, le-ltb _ _ left) right
 
 -- Code 27 at a train and at a box of a line. The columns are those of its table.
 module _ (l : Line) (a b kinds : List ℕ) (ends-a : a ≡ column (farBox (l .table) 1)) (ends-b : b ≡ column (farBox (l .table) 0)) (of-kinds : kinds ≡ column (kindOf (l .table .boxes))) (sized : length (l .table .segments) ≡ 96) (boxed : length (l .table .boxes) ≡ 96) where

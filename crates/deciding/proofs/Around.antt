@@ -12,12 +12,12 @@ use Rattle.layout.specs.Ends.{column}
 use Rattle.layout.proofs.Column.{column-all}
 use Rattle.layout.proofs.Laws.{a-column, b-column}
 use Rattle.deciding.specs.Sight.{kindOf, farIn, nearIn, aroundIn}
-use Rattle.deciding.proofs.Sights.{kind-beyond}
+use Rattle.deciding.proofs.Sights.{kind-past}
 
 -- The kind of any box number stands in its column.
 kind-column : (t : Table) → length (t .boxes) ≡ 96 → (b : ℕ) → getD (column (kindOf (t .boxes))) b 0 ≡ planAt t b .kind
 unfolding kindOf planAt
-kind-column t e = column-all (kindOf (t .boxes)) (λ b h. kind-beyond (t .boxes) e b (omega arith))
+kind-column t e = column-all (kindOf (t .boxes)) (λ b h. kind-past (t .boxes) e b (omega arith))
 
 module _ (t : Table) (e : length (t .segments) ≡ 96) where
   -- The far and near end of any segment number: in direction 0 these are B and A, in any other A and B.

@@ -17,26 +17,27 @@ use Rattle.rules.specs.Steps.{withMessage, requestRows, boxRows, granted, enter
 use Rattle.rules.proofs.StepRows.{enter-iff}
 use Rattle.rules.proofs.Tests.{tests, and-true, and-left, and-right}
 use Rattle.deciding.specs.declared.Decided.{Decided}
-use Rattle.deciding.specs.Decided.{decidedAs, refusing, sending, answering, boxAnswering, hearing, entering, clearing, plainly, decided}
+use Rattle.deciding.specs.declared.Decided.the-variants.{Refused, Changed}
+use Rattle.deciding.specs.Decided.{sending, answering, boxAnswering, hearing, entering, clearing, plainly, decided}
 
 -- A request is refused with the code of its rows, or sent.
 module _ (v : Around) (r : Train) (q : Request) (x : SwitchBox) (c : ℕ) (code : c ≡ first (requestRows v r q)) where
-  pub send-refused : (d : Decided) → c ≢ 0 → d ≡ refusing c → d ≡ sending v r q x
+  pub send-refused : (d : Decided) → c ≢ 0 → d ≡ Refused c → d ≡ sending v r q x
   unfolding sending
   send-refused d n e = rw (← code, ne-eqb c 0 n) e
 
-  pub send-free : (t : Train) → c ≡ 0 → t ≡ withMessage r (Sent q) → decidedAs 0 t x ≡ sending v r q x
+  pub send-free : (t : Train) → c ≡ 0 → t ≡ withMessage r (Sent q) → Changed 0 t x ≡ sending v r q x
   unfolding sending
   send-free t none e = rw (e, ← code, none)
 
 -- A box's answer goes into the message; a no leaves the box as it was.
 module _ (v : Around) (r : Train) (p : BoxPlan) (x : SwitchBox) (q : Request) (c : ℕ) (t : Train)
     (code : c ≡ first (boxRows v p x q)) (message : t ≡ withMessage r (Answered q c)) where
-  pub reply-no : c ≢ 0 → decidedAs c t x ≡ answering v r p x q
+  pub reply-no : c ≢ 0 → Changed c t x ≡ answering v r p x q
   unfolding answering
   reply-no n = rw (message, ← code, ne-eqb c 0 n)
 
-  pub reply-yes : (y : SwitchBox) → c ≡ 0 → y ≡ granted v p x q → decidedAs 0 t y ≡ answering v r p x q
+  pub reply-yes : (y : SwitchBox) → c ≡ 0 → y ≡ granted v p x q → Changed 0 t y ≡ answering v r p x q
   unfolding answering
   reply-yes y none e = rw (message, e, ← code, none)
 
@@ -85,21 +86,21 @@ enter-room v r code e none = let free = enter-iff v r .0 (sym e ∙ none) in (fr
 
 module _ (v : Around) (r : Train) (p : BoxPlan) (x : SwitchBox) (d : Decided) where
   -- Clear: refused where the train is single.
-  pub clear-single : r .covered ≤ 1 → d ≡ refusing 20 → d ≡ clearing v r p x
+  pub clear-single : r .covered ≤ 1 → d ≡ Refused 20 → d ≡ clearing v r p x
   unfolding clearing clearRows first
   clear-single single e = rw (le-leb (r .covered) 1 single) e
 
-  pub clear-crossing : 1 < r .covered → d ≡ decidedAs 0 (cleared r) (released p x (v .tail) (v .second)) → d ≡ clearing v r p x
+  pub clear-crossing : 1 < r .covered → d ≡ Changed 0 (cleared r) (released p x (v .tail) (v .second)) → d ≡ clearing v r p x
   unfolding clearing clearRows first
   clear-crossing crossing e = rw (lt-leb (r .covered) 1 crossing) e
 
 module _ (kind at : ℕ) (known : Bool) (v : Around) (r : Train) (p : BoxPlan) (x : SwitchBox) (d : Decided) where
   -- Kinds 3 to 6: 13 for a box byte, 14 for an unknown train.
-  pub plain-box : at ≢ 0 → d ≡ refusing 13 → d ≡ plainly kind at known v r p x
+  pub plain-box : at ≢ 0 → d ≡ Refused 13 → d ≡ plainly kind at known v r p x
   unfolding plainly
   plain-box box e = rw (ne-eqb at 0 box) e
 
-  pub plain-unknown : at ≡ 0 → not known ≡ true → d ≡ refusing 14 → d ≡ plainly kind at known v r p x
+  pub plain-unknown : at ≡ 0 → not known ≡ true → d ≡ Refused 14 → d ≡ plainly kind at known v r p x
   unfolding plainly
   plain-unknown none unknown e = rw (eq-eqb at 0 none, not-true known unknown) e
 
@@ -130,7 +131,7 @@ module _ (kind at : ℕ) (known : Bool) (v : Around) (r : Train) (p : BoxPlan) (
         let within : (leb 3 kind && leb kind 6) ≡ true = and-true _ _ (le-leb 3 kind (omega arith)) (le-leb kind 6 (omega arith)) in
         rw (ne-eqb kind 1 one, ne-eqb kind 2 two, within) e
 
-    pub decided-other : (kind < 1) ⊎ (7 ≤ kind) → d ≡ refusing 13 → d ≡ decided kind at known v r p x
+    pub decided-other : (kind < 1) ⊎ (7 ≤ kind) → d ≡ Refused 13 → d ≡ decided kind at known v r p x
     unfolding decided
     decided-other outside e =
         let beyond : (leb 3 kind && leb kind 6) ≡ false =

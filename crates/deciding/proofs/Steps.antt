@@ -1,13 +1,12 @@
 -- What is decided of a train and a box, put back into the line, is the step of `rules`.
-use Prim.Native.Nat.{ℕ, zero, suc, _-_, _≤_}
-use mathlib.Core.Path.{_≡_, refl, sym, _∙_}
-use mathlib.Core.Bool.{Bool, true, false, cond, not, _&&_, false≢true}
+use Prim.Native.Nat.{ℕ, _-_, _≤_}
+use mathlib.Core.Path.{_≡_, refl, _∙_}
+use mathlib.Core.Bool.{Bool, true, false, cond, not, _&&_}
 use mathlib.Core.List.{List}
-use native.Mathlib.Decide.{ℕ-discrete, decLt}
+use native.Mathlib.Decide.{ℕ-discrete}
 use native.Mathlib.Omega.{arith}
 use lib.Dec.{eqb, leb}
-use lib.ListN.{length, getD, set, List·getD-eq-default}
-use lib.Seq.{set-out}
+use lib.ListN.{length, getD, set}
 use Rattle.rules.specs.declared.BoxPlan.{BoxPlan}
 use Rattle.rules.specs.declared.SwitchBox.{SwitchBox}
 use Rattle.rules.specs.declared.Request.{Request}
@@ -18,20 +17,17 @@ use Rattle.rules.specs.declared.Train.{Train}
 use Rattle.rules.specs.declared.Line.{Line}
 use Rattle.rules.specs.declared.Around.{Around}
 use Rattle.rules.specs.declared.Outcome.{Outcome}
-use Rattle.rules.specs.Rows.{outside, nth, setNth}
+use Rattle.rules.specs.Rows.{outside}
 use Rattle.rules.specs.Track.{noBoxPlan, planAt}
 use Rattle.rules.specs.Line.{noBox, noTrain, aroundTrain, around, boxAt, trainAt, putTrain, putBox, messageBox}
 use Rattle.rules.specs.Steps.{Step, Effect, refused, train, trainAndBox, apply, unless, forTrain, send, reply, boxAnswers, trainHears, enter, clear, plainEffect, effect, step}
 use Rattle.rules.proofs.Tests.{facts, outside-false-iff}
+use Rattle.rules.proofs.Rows.{nth-before}
 use Rattle.rules.proofs.Frames.{train-alone}
 use Rattle.deciding.specs.declared.Decided.{Decided}
 use Rattle.deciding.specs.declared.Decided.the-variants.{Refused, Changed}
-use Rattle.deciding.specs.Decided.{putBack, concernedBox, decidedAs, refusing, unlessStopped, sending, answering, boxAnswering, hearing, entering, clearing, asking, plainly, decided}
-
--- What holds where a test is passed and where it is not holds.
-tested {ℓ} : {P : Type ℓ} (c : Bool) → (c ≡ true → P) → (c ≡ false → P) → P
-tested true h k = h refl
-tested false h k = k refl
+use Rattle.deciding.specs.Decided.{putBack, concernedBox, unlessStopped, sending, answering, boxAnswering, hearing, entering, clearing, asking, plainly, decided}
+use Rattle.deciding.proofs.Indices.{tested, set-before, nth-index, set-index}
 
 -- An effect of train i, and the same decided of it and of box b.
 record Same (l : Line) (i b : ℕ) (e : Effect) (d : Decided) : Type 0 where
@@ -45,15 +41,15 @@ module _ {l : Line} {i b : ℕ} where
   either false h k = k refl
 
   -- A refusal leaves the line as it was; a train alone leaves the box as it was.
-  refusal : (c : ℕ) → Same l i b (refused c) (refusing c)
+  refusal : (c : ℕ) → Same l i b (refused c) (Refused c)
   unfolding apply
   refusal c = record { same = refl }
 
-  alone : (c : ℕ) (r : Train) → Same l i b (train c r) (decidedAs c r (boxAt l b))
+  alone : (c : ℕ) (r : Train) → Same l i b (train c r) (Changed c r (boxAt l b))
   unfolding apply
   alone c r = record { same = rw train-alone }
 
-  both : (c : ℕ) (r : Train) (x : SwitchBox) → Same l i b (trainAndBox c r b x) (decidedAs c r x)
+  both : (c : ℕ) (r : Train) (x : SwitchBox) → Same l i b (trainAndBox c r b x) (Changed c r x)
   unfolding apply
   both c r x = record { same = refl }
 
@@ -96,10 +92,10 @@ module _ (l : Line) (i : ℕ) where
 
 -- The box that a step concerns, and what is decided there, for a train of the line.
 module _ (l : Line) (s : Step) where
-  abbrev pub boxOf : ℕ
+  abbrev boxOf : ℕ
   boxOf = concernedBox (s .kind) (around l (s .train)) (trainAt l (s .train))
 
-  abbrev pub decidedHere : Decided
+  abbrev decidedHere : Decided
   decidedHere =
       decided (s .kind) (s .box) true (around l (s .train)) (trainAt l (s .train)) (planAt (l .table) boxOf) (boxAt l boxOf)
 
@@ -158,9 +154,9 @@ putAt l i j (Changed c r x) = leaving l c (set (l .boxes) j x) (set (l .trains) 
 record BothRefuse (e : Effect) (d : Decided) : Type 0 where
   code : ℕ
   effect : e ≡ refused code
-  decision : d ≡ refusing code
+  decision : d ≡ Refused code
 
-both-refuse : (c : ℕ) → BothRefuse (refused c) (refusing c)
+both-refuse : (c : ℕ) → BothRefuse (refused c) (Refused c)
 both-refuse c = record { code = c; effect = refl; decision = refl }
 
 either-refuse : (c : Bool) {e f : Effect} {d g : Decided} → BothRefuse e d → BothRefuse f g
@@ -184,59 +180,6 @@ module _ (l : Line) (s : Step) (h : outside (l .table .k) (s .train) ≡ true) w
       → step l s ≡ putAt l i j (decided (s .kind) (s .box) false v r p x)
   unfolding step apply
   step-unknown v r p x i j = let k = effect-refuses v r p x in rw (k .effect, k .decision)
-
--- A number that is not 0 and outside 1 .. n is above n.
-past : (n i : ℕ) → outside n (suc i) ≡ true → n ≤ i
-past n i h =
-    elim (decLt i n) [
-      | yes l ↦ absurd (false≢true (sym (outside-false-iff n (suc i) .1 (omega arith, l)) ∙ h))
-      | no l ↦ omega arith
-    ]
-
-module _ {ℓ} {A : Type ℓ} where
-  -- A list's i-th where i is a number of the list: it stands at index i - 1, and is put back there.
-  nth-before : (l : List A) (i : ℕ) (d : A) → 1 ≤ i → nth l i d ≡ getD l (i - 1) d
-  unfolding nth
-  nth-before l zero d h = absurd (omega arith)
-  nth-before l (suc i) d h = let e : suc i - 1 ≡ i = omega arith in rw e
-
-  set-before : (l : List A) (i : ℕ) (a : A) → 1 ≤ i → setNth l i a ≡ set l (i - 1) a
-  unfolding setNth
-  set-before l zero a h = absurd (omega arith)
-  set-before l (suc i) a h = let e : suc i - 1 ≡ i = omega arith in rw e
-
-  -- Where it is none, nothing is read and nothing is put back.
-  nth-outside : (l : List A) (i : ℕ) (d : A) → outside (length l) i ≡ true → nth l i d ≡ d
-  unfolding nth
-  nth-outside l zero d h = refl
-  nth-outside l (suc i) d h = List·getD-eq-default l d (past (length l) i h)
-
-  set-outside : (l : List A) (i : ℕ) (a : A) → outside (length l) i ≡ true → setNth l i a ≡ l
-  unfolding setNth
-  set-outside l zero a h = refl
-  set-outside l (suc i) a h = set-out l i a (past (length l) i h)
-
-  -- So both are done at an index that is past the end where i is no number of the list.
-  module _ (l : List A) (n : ℕ) (size : length l ≡ n) (i j : ℕ) (j-is : j ≡ cond (outside n i) n (i - 1)) where
-    nth-index : (d : A) → nth l i d ≡ getD l j d
-    nth-index d =
-        tested (outside n i)
-        (λ none.
-        let beyond : j ≡ n = rw none at j-is in
-        nth-outside l i d (rw size none) ∙ sym (List·getD-eq-default l d (omega arith)))
-        (λ some.
-        let here : j ≡ i - 1 = rw some at j-is in
-        rw here (nth-before l i d (outside-false-iff n i .0 some .0)))
-
-    set-index : (a : A) → setNth l i a ≡ set l j a
-    set-index a =
-        tested (outside n i)
-        (λ none.
-        let beyond : j ≡ n = rw none at j-is in
-        set-outside l i a (rw size none) ∙ sym (set-out l j a (omega arith)))
-        (λ some.
-        let here : j ≡ i - 1 = rw some at j-is in
-        rw here (set-before l i a (outside-false-iff n i .0 some .0)))
 
 -- A step as a program takes it: a train read at an index, what stands around it, the box that the step concerns, read at an index
 -- that is past the end where there is none, and what is decided of the train and the box.

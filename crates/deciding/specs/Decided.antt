@@ -28,21 +28,13 @@ unfoldable pub concernedBox : ℕ → Around → Train → ℕ
 concernedBox kind v r =
     cond (eqb kind 3) (messageBox (r .message)) (cond (eqb kind 5) (v .ahead) (cond (eqb kind 6) (v .passed) 0))
 
--- A step that changes the train, the box or both: its code, and both after it.
-abbrev pub decidedAs : ℕ → Train → SwitchBox → Decided
-decidedAs c r x = Changed c r x
-
--- A refused step.
-abbrev pub refusing : ℕ → Decided
-refusing c = Refused c
-
 -- What is decided where a row stops nothing, and the row's code where it does.
 abbrev pub unlessStopped : ℕ → Decided → Decided
-unlessStopped c d = cond (eqb c 0) d (refusing c)
+unlessStopped c d = cond (eqb c 0) d (Refused c)
 
 -- Kinds 1 and 2.
 unfoldable pub sending : Around → Train → Request → SwitchBox → Decided
-sending v r q x = unlessStopped (first (requestRows v r q)) (decidedAs 0 (withMessage r (Sent q)) x)
+sending v r q x = unlessStopped (first (requestRows v r q)) (Changed 0 (withMessage r (Sent q)) x)
 
 -- A point whose lock is given to the train.
 abbrev pub lockGiven : Around → BoxPlan → SwitchBox → SwitchBox
@@ -60,30 +52,30 @@ lockGiven v p x =
 unfoldable pub answering : Around → Train → BoxPlan → SwitchBox → Request → Decided
 answering v r p x q =
     let c = first (boxRows v p x q) in
-    decidedAs c (withMessage r (Answered q c)) (cond (eqb c 0) (granted v p x q) x)
+    Changed c (withMessage r (Answered q c)) (cond (eqb c 0) (granted v p x q) x)
 
 unfoldable pub boxAnswering : Around → Train → BoxPlan → SwitchBox → Message → Decided
-boxAnswering v r p x Idle = refusing 21
+boxAnswering v r p x Idle = Refused 21
 boxAnswering v r p x (Sent q) = answering v r p x q
-boxAnswering v r p x (Answered q c) = refusing 21
+boxAnswering v r p x (Answered q c) = Refused 21
 
 -- Kind 4.
 unfoldable pub hearing : Around → Train → SwitchBox → Message → Decided
-hearing v r x Idle = refusing 21
-hearing v r x (Sent q) = refusing 21
-hearing v r x (Answered q c) = decidedAs c (heard v r q c) x
+hearing v r x Idle = Refused 21
+hearing v r x (Sent q) = Refused 21
+hearing v r x (Answered q c) = Changed c (heard v r q c) x
 
 -- Kinds 5 and 6.
 unfoldable pub entering : Around → Train → SwitchBox → Decided
-entering v r x = unlessStopped (first (enterRows v r)) (decidedAs 0 (entered r) (sensed x))
+entering v r x = unlessStopped (first (enterRows v r)) (Changed 0 (entered r) (sensed x))
 
 unfoldable pub clearing : Around → Train → BoxPlan → SwitchBox → Decided
 clearing v r p x =
-    unlessStopped (first (clearRows r)) (decidedAs 0 (cleared r) (released p x (v .tail) (v .second)))
+    unlessStopped (first (clearRows r)) (Changed 0 (cleared r) (released p x (v .tail) (v .second)))
 
 -- Code 14 comes before what the train does.
-abbrev pub ifKnown : Bool → Decided → Decided
-ifKnown known d = cond known d (refusing 14)
+abbrev ifKnown : Bool → Decided → Decided
+ifKnown known d = cond known d (Refused 14)
 
 unfoldable pub asking : Bool → Around → Train → Request → SwitchBox → Decided
 asking known v r q x = ifKnown known (sending v r q x)
@@ -94,11 +86,11 @@ plainly kind at known v r p x =
     (ifKnown known
     (cond (eqb kind 3) (boxAnswering v r p x (r .message))
     (cond (eqb kind 4) (hearing v r x (r .message)) (cond (eqb kind 5) (entering v r x) (clearing v r p x)))))
-    (refusing 13)
+    (Refused 13)
 
 -- A step by its kind: 1, 2, 3 to 6, and all others.
 unfoldable pub decided : ℕ → ℕ → Bool → Around → Train → BoxPlan → SwitchBox → Decided
 decided kind at known v r p x =
     cond (eqb kind 1) (asking known v r (Reserve at) x)
     (cond (eqb kind 2) (asking known v r (Lock at) x)
-    (cond (leb 3 kind && leb kind 6) (plainly kind at known v r p x) (refusing 13)))
+    (cond (leb 3 kind && leb kind 6) (plainly kind at known v r p x) (Refused 13)))

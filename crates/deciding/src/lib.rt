@@ -11,7 +11,8 @@ use rules::Train;
 use sight::around;
 ghost use mathlib.Core.Path.{_≡_};
 ghost use Rattle.deciding.specs.Sight.{aroundIn};
-ghost use Rattle.deciding.specs.Decided.{concernedBox, refusing, asking, plainly, decided};
+ghost use Rattle.deciding.specs.declared.Decided.the-variants.{Refused};
+ghost use Rattle.deciding.specs.Decided.{concernedBox, asking, plainly, decided};
 
 // A step decided: refused with a code, nothing changed; or a code, and the train and the box after it.
 pub enum Decided {
@@ -42,7 +43,7 @@ pub fn concerned(
 
 // A refused step.
 pub(crate) fn refused(code: u8) -> Decided
-    ensures { λ d. ⌜ d ≡ refusing code ⌝ }
+    ensures { λ d. ⌜ d ≡ Refused code ⌝ }
 {
     Decided::Refused(code)
 }

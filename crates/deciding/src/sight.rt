@@ -4,7 +4,6 @@ use rules::BoxPlan;
 use rules::Train;
 ghost use mathlib.Core.Path.{_≡_};
 ghost use Prim.Native.Nat.{_-_};
-ghost use lib.ListN.{length};
 ghost use Rattle.rules.specs.Track.{routeAt};
 ghost use Rattle.layout.specs.Ends.{column};
 ghost use Rattle.deciding.specs.Sight.{kindOf, farIn, nearIn, aroundIn};
@@ -24,10 +23,10 @@ pub fn kinds(plans: [BoxPlan; 96]) -> [u8; 256]
 }
 
 // The segment at place p, counted from 1, of the route of the train with this number; 0 where there is none.
-fn segment_at(routes: &[u8], number: u8, p: usize) -> u8
-    requires { ⌜ length (now routes) ≡ 1024 ⌝ }
+pub fn segment_at(routes: &[u8; 1024], number: u8, p: usize) -> u8
     ensures { λ s. ⌜ s ≡ routeAt (now (routes .entry)) number p ⌝ }
 {
+    let places: &[u8] = routes;
     if number == 0 {
         return 0;
     }
@@ -41,7 +40,7 @@ fn segment_at(routes: &[u8], number: u8, p: usize) -> u8
         return 0;
     }
     let start = 64 * (number - 1) as usize;
-    routes[start + p - 1]
+    places[start + p - 1]
 }
 
 // The box at the far end of segment s in direction d.

@@ -43,15 +43,16 @@ pub record Passed (l : Line) (a b kinds : List ℕ) (c : ℕ) : Type 0 where
   pub trains : atTrains l a b kinds ≡ false
   pub boxes : atBoxes l ≡ false
 
+-- A step is refused with 27 where the check finds something.
+refused-27 : {l : Line} (s : Step) → recordFault l ≡ true → record { code = 27; line = l } ≡ checkedStep l s
+unfolding checkedStep
+refused-27 s e = rw e refl
+
 module _ {l : Line} {a b kinds : List ℕ} {c : ℕ} (h : Coded l a b kinds c) where
   by-parts : recordFault l ≡ (not (eqb c 0) || atTrains l a b kinds || atBoxes l)
   by-parts =
       let code : c ≡ tableCode (l .table) = rw (h .columns .ends-a, h .columns .ends-b, parts-code (l .table) (h .segments)) at (h .code) in
       rw code (record-fault l a b kinds (h .columns .ends-a) (h .columns .ends-b) (h .columns .kinds-of) (h .segments) (h .plans))
-
-  refused-27 : (s : Step) → recordFault l ≡ true → record { code = 27; line = l } ≡ checkedStep l s
-  unfolding checkedStep
-  refused-27 s e = rw e refl
 
   -- 27 where a part of the check finds something.
   pub table-faulty : (s : Step) → (c ≡ 0 → ⊥) → record { code = 27; line = l } ≡ checkedStep l s

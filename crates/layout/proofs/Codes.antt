@@ -18,26 +18,26 @@ module _ (version n m k : ℕ) where
       let (version, (limits, _)) = simp first-zero-iff at (sym e ∙ z) in
       limits-iff n m k .0 limits
 
-  module _ (boxes : List BoxPlan) (trains : List TrainPlan) (routes a b : List ℕ) where
-    head-clear : first (headRows version n m k) ≡ 0 → partsCode version n m k boxes trains routes a b ≡ first (networkRowsIn n m boxes a b ++ placingRowsIn n k trains routes a b)
+  module _ (plans : List BoxPlan) (trains : List TrainPlan) (routes a b : List ℕ) where
+    head-clear : first (headRows version n m k) ≡ 0 → partsCode version n m k plans trains routes a b ≡ first (networkRowsIn n m plans a b ++ placingRowsIn n k trains routes a b)
     unfolding partsCode headRows
     head-clear e =
         let (version, (limits, _)) = simp first-zero-iff at e in
         sym (first-skip _ _ _ version (first-skip _ _ _ limits refl))
 
-    network-clear : first (networkRowsIn n m boxes a b) ≡ 0 → first (networkRowsIn n m boxes a b ++ placingRowsIn n k trains routes a b) ≡ first (placingRowsIn n k trains routes a b)
+    network-clear : first (networkRowsIn n m plans a b) ≡ 0 → first (networkRowsIn n m plans a b ++ placingRowsIn n k trains routes a b) ≡ first (placingRowsIn n k trains routes a b)
     unfolding networkRowsIn
     network-clear e =
-        let (ends, (plans, (listing, (loop, _)))) = simp first-zero-iff at e in
-        sym (first-skip _ _ _ ends (first-skip _ _ _ plans (first-skip _ _ _ listing (first-skip _ _ _ loop refl))))
+        let (ends, (kinds, (listing, (loop, _)))) = simp first-zero-iff at e in
+        sym (first-skip _ _ _ ends (first-skip _ _ _ kinds (first-skip _ _ _ listing (first-skip _ _ _ loop refl))))
 
     -- The code of the head, of the network and of the trains is the code of all parts, where those before it are 0.
-    pub head-counts : (h : ℕ) → h ≡ first (headRows version n m k) → (h ≡ 0 → ⊥) → h ≡ partsCode version n m k boxes trains routes a b
+    pub head-counts : (h : ℕ) → h ≡ first (headRows version n m k) → (h ≡ 0 → ⊥) → h ≡ partsCode version n m k plans trains routes a b
     unfolding partsCode
     head-counts h e z = e ∙ first-before _ _ (λ y. z (e ∙ y))
 
-    pub network-counts : (h c : ℕ) → h ≡ first (headRows version n m k) → h ≡ 0 → c ≡ first (networkRowsIn n m boxes a b) → (c ≡ 0 → ⊥) → c ≡ partsCode version n m k boxes trains routes a b
+    pub network-counts : (h c : ℕ) → h ≡ first (headRows version n m k) → h ≡ 0 → c ≡ first (networkRowsIn n m plans a b) → (c ≡ 0 → ⊥) → c ≡ partsCode version n m k plans trains routes a b
     network-counts h c e z f y = f ∙ first-before _ _ (λ x. y (f ∙ x)) ∙ sym (head-clear (sym e ∙ z))
 
-    pub placing-counts : (h c r : ℕ) → h ≡ first (headRows version n m k) → h ≡ 0 → c ≡ first (networkRowsIn n m boxes a b) → c ≡ 0 → r ≡ first (placingRowsIn n k trains routes a b) → r ≡ partsCode version n m k boxes trains routes a b
+    pub placing-counts : (h c r : ℕ) → h ≡ first (headRows version n m k) → h ≡ 0 → c ≡ first (networkRowsIn n m plans a b) → c ≡ 0 → r ≡ first (placingRowsIn n k trains routes a b) → r ≡ partsCode version n m k plans trains routes a b
     placing-counts h c r e z f y g = g ∙ sym (network-clear (sym f ∙ y)) ∙ sym (head-clear (sym e ∙ z))

@@ -1,23 +1,21 @@
 -- What the conditions on the parts of a table say of the record at an index, in the words of the functions that test them; and
 -- what stands in columns of far boxes.
-use Prim.Native.Nat.{ℕ, zero, suc, _+_, _-_, _≤_, _<_}
+use Prim.Native.Nat.{ℕ, _+_, _-_, _≤_, _<_}
 use mathlib.Core.Path.{_≡_, refl, sym, _∙_, ap}
-use mathlib.Core.Bool.{Bool, true, false, cond, _||_}
+use mathlib.Core.Bool.{Bool, true, false, _||_}
 use mathlib.Core.List.{List}
-use native.Mathlib.Decide.{ℕ-discrete, decLt}
 use native.Mathlib.Numerals.{add-one}
 use native.Mathlib.Omega.{arith}
 use borrow.Author.Tests.{eq-eqb, ne-eqb}
 use lib.Dec.{eqb}
-use lib.ListN.{length, getD, set, replicate, length-set, length-replicate, List·getD-eq-default}
-use lib.Seq.{getD-set-same, getD-set-other, ext-getD}
+use lib.ListN.{length, getD}
 use Rattle.rules.specs.declared.Segment.{Segment}
 use Rattle.rules.specs.declared.BoxPlan.{BoxPlan}
 use Rattle.rules.specs.declared.TrainPlan.{TrainPlan}
 use Rattle.rules.specs.declared.Table.{Table}
-use Rattle.rules.specs.Rows.{anyOf, outside, nth, listFrom}
+use Rattle.rules.specs.Rows.{anyOf, outside, nth}
 use Rattle.rules.proofs.Tests.{tests, facts, outside-false-iff, cond-same}
-use Rattle.rules.proofs.Rows.{any-false-at, any-false, nth-at, from-at, from-length, replicate-at}
+use Rattle.rules.proofs.Rows.{any-false-at, any-false, nth-at, nth-before, nth-past}
 use Rattle.rules.specs.Track.{noSegment, noBoxPlan, noTrainPlan, segmentAt, endA, endB, farBox}
 use Rattle.rules.specs.Network.{planFault, lists}
 use Rattle.rules.specs.Placing.{routeShapeFault}
@@ -32,57 +30,17 @@ module _ (i : ℕ) (r v : Bool) where
   unfolding endsFaultIn
   ends-answer m a b e f = sym e ∙ f
 
-  pub plan-answer : (n : ℕ) (boxes : List BoxPlan) → r ≡ planFault n (getD boxes i noBoxPlan) → r ≡ v → planFaultIn n boxes (i + 1) ≡ v
+  pub plan-answer : (n : ℕ) (plans : List BoxPlan) → r ≡ planFault n (getD plans i noBoxPlan) → r ≡ v → planFaultIn n plans (i + 1) ≡ v
   unfolding planFaultIn
-  plan-answer n boxes e f = rw nth-at (sym e ∙ f)
+  plan-answer n plans e f = rw nth-at (sym e ∙ f)
 
-  pub box-answer : (boxes : List BoxPlan) (a b : List ℕ) (stem left right : Segment) → stem ≡ endsIn a b (getD boxes i noBoxPlan .stem) → left ≡ endsIn a b (getD boxes i noBoxPlan .left) → right ≡ endsIn a b (getD boxes i noBoxPlan .right) → r ≡ boxFaultOn (i + 1) (getD boxes i noBoxPlan) stem left right → r ≡ v → boxFaultIn boxes a b (i + 1) ≡ v
+  pub box-answer : (plans : List BoxPlan) (a b : List ℕ) (stem left right : Segment) → stem ≡ endsIn a b (getD plans i noBoxPlan .stem) → left ≡ endsIn a b (getD plans i noBoxPlan .left) → right ≡ endsIn a b (getD plans i noBoxPlan .right) → r ≡ boxFaultOn (i + 1) (getD plans i noBoxPlan) stem left right → r ≡ v → boxFaultIn plans a b (i + 1) ≡ v
   unfolding boxFaultIn
-  box-answer boxes a b stem left right x y z h k = rw nth-at (rw (x, y, z) at (sym h ∙ k))
+  box-answer plans a b stem left right x y z h k = rw nth-at (rw (x, y, z) at (sym h ∙ k))
 
   pub shape-answer : (trains : List TrainPlan) → r ≡ routeShapeFault (getD trains i noTrainPlan .direction) (getD trains i noTrainPlan .length) → r ≡ v → shapeFaultIn trains (i + 1) ≡ v
   unfolding shapeFaultIn
   shape-answer trains e f = rw nth-at (sym e ∙ f)
-
--- A list of n that is filled with f 0, f 1 and so on: f 0 to f i stand, and the rest is 0.
-pub record Filled (n : ℕ) (f : ℕ → ℕ) (i : ℕ) (l : List ℕ) : Type 0 where
-  pub long : length l ≡ n
-  pub done : (x : ℕ) → x ≤ i → getD l x 0 ≡ f x
-  pub rest : (x : ℕ) → i < x → getD l x 0 ≡ 0
-
-module _ (n : ℕ) (f : ℕ → ℕ) where
-  pub fill-start : f 0 ≡ 0 → Filled n f 0 (replicate n 0)
-  fill-start e =
-      record {
-        long = length-replicate n 0;
-        done = λ x h. let z : x ≡ 0 = omega arith in rw z (replicate-at n 0 0 ∙ sym e);
-        rest = λ x h. replicate-at n x 0;
-      }
-
-  pub fill-turn : (i a : ℕ) (l : List ℕ) → Filled n f i l → i + 1 < n → a ≡ f (i + 1) → Filled n f (i + 1) (set l (i + 1) a)
-  fill-turn i a l h k e =
-      record {
-        long = length-set l (i + 1) a ∙ h .long;
-        done =
-            λ x b.
-            elim (ℕ-discrete x (i + 1)) [
-              | yes z ↦ rw z (getD-set-same l (i + 1) a 0 (rw (h .long) k) ∙ e)
-              | no z ↦ getD-set-other l (i + 1) x a 0 z ∙ h .done x (omega arith)
-            ];
-        rest = λ x b. getD-set-other l (i + 1) x a 0 (λ z. omega arith) ∙ h .rest x (omega arith);
-      }
-
-  pub fill-end : (i : ℕ) (l : List ℕ) → Filled n f i l → ((x : ℕ) → i < x → f x ≡ 0) → l ≡ listFrom 0 n f
-  fill-end i l h z =
-      ext-getD 0 l (listFrom 0 n f) (h .long ∙ sym (from-length f n 0))
-      (λ x b. at x ∙ sym (from-at f n 0 x 0 (rw (h .long) at b) ∙ ap f (omega arith)))
-    where
-      at : (x : ℕ) → getD l x 0 ≡ f x
-      at x =
-          elim (decLt i x) [
-            | yes b ↦ h .rest x b ∙ sym (z x b)
-            | no b ↦ h .done x (omega arith)
-          ]
 
 -- The far box of a segment that is none: 0; and of the segment at index i.
 module _ (l : List Segment) (d : ℕ) where
@@ -90,12 +48,9 @@ module _ (l : List Segment) (d : ℕ) where
   unfolding farEnd nth
   far-none = cond-same (eqb d 0) 0
 
-  pub far-beyond : length l ≡ 96 → (x : ℕ) → 96 < x → farEnd l d x ≡ 0
-  unfolding farEnd nth
-  far-beyond e zero h = absurd (omega arith)
-  far-beyond e (suc x) h =
-      let none : getD l x noSegment ≡ noSegment = List·getD-eq-default l noSegment (omega arith) in
-      ap (λ (s : Segment). cond (eqb d 0) (s .b) (s .a)) none ∙ cond-same (eqb d 0) 0
+  pub far-past : length l ≡ 96 → (x : ℕ) → 96 < x → farEnd l d x ≡ 0
+  unfolding farEnd
+  far-past e x h = rw (nth-past l x noSegment (omega arith)) (cond-same (eqb d 0) 0)
 
   pub far-b : (i : ℕ) → d ≡ 0 → getD l i noSegment .b ≡ farEnd l d (i + 1)
   unfolding farEnd nth
@@ -133,30 +88,25 @@ module _ (n m : ℕ) (a b : List ℕ) (none : anyOf n (endsFaultIn m a b) ≡ fa
       simp (facts, outside-false-iff) (omega arith, differ)
 
 -- What was found at the two boxes of a segment's ends.
-plan-before : (boxes : List BoxPlan) (x : ℕ) → 1 ≤ x → getD boxes (x - 1) noBoxPlan ≡ nth boxes x noBoxPlan
-unfolding nth
-plan-before boxes zero l = absurd (omega arith)
-plan-before boxes (suc x) l = let e : suc x - 1 ≡ x = omega arith in rw e
+pub listed-at : (plans : List BoxPlan) (x s : ℕ) (r v : Bool) → 1 ≤ x → r ≡ lists (getD plans (x - 1) noBoxPlan) s → r ≡ v → lists (nth plans x noBoxPlan) s ≡ v
+listed-at plans x s r v l e f = ap (λ (p : BoxPlan). lists p s) (nth-before plans x noBoxPlan l) ∙ sym e ∙ f
 
-pub listed-at : (boxes : List BoxPlan) (x s : ℕ) (r v : Bool) → 1 ≤ x → r ≡ lists (getD boxes (x - 1) noBoxPlan) s → r ≡ v → lists (nth boxes x noBoxPlan) s ≡ v
-listed-at boxes x s r v l e f = ap (λ (p : BoxPlan). lists p s) (sym (plan-before boxes x l)) ∙ sym e ∙ f
-
-module _ (boxes : List BoxPlan) (a b : List ℕ) (s : ℕ) where
-  pub unlisted-a : lists (nth boxes (getD a s 0) noBoxPlan) s ≡ false → unlistedIn boxes a b s ≡ true
+module _ (plans : List BoxPlan) (a b : List ℕ) (s : ℕ) where
+  pub unlisted-a : lists (nth plans (getD a s 0) noBoxPlan) s ≡ false → unlistedIn plans a b s ≡ true
   unfolding unlistedIn
   unlisted-a e = search tests depth 8
 
-  pub unlisted-b : lists (nth boxes (getD b s 0) noBoxPlan) s ≡ false → unlistedIn boxes a b s ≡ true
+  pub unlisted-b : lists (nth plans (getD b s 0) noBoxPlan) s ≡ false → unlistedIn plans a b s ≡ true
   unfolding unlistedIn
   unlisted-b e = search tests depth 8
 
-  pub listed-both : lists (nth boxes (getD a s 0) noBoxPlan) s ≡ true → lists (nth boxes (getD b s 0) noBoxPlan) s ≡ true → unlistedIn boxes a b s ≡ false
+  pub listed-both : lists (nth plans (getD a s 0) noBoxPlan) s ≡ true → lists (nth plans (getD b s 0) noBoxPlan) s ≡ true → unlistedIn plans a b s ≡ false
   unfolding unlistedIn
   listed-both e f = search tests depth 8
 
 -- The column of far boxes gives the far box of any segment number.
-pub far-column : (t : Table) (d : ℕ) → length (t .segments) ≡ 96 → (x : ℕ) → getD (column (farBox t d)) x 0 ≡ farBox t d x
-far-column t d e = column-all (farBox t d) (λ x l. ap (λ (f : ℕ → ℕ). f x) (sym (far-end t d)) ∙ far-beyond (t .segments) d e x (omega arith))
+far-column : (t : Table) (d : ℕ) → length (t .segments) ≡ 96 → (x : ℕ) → getD (column (farBox t d)) x 0 ≡ farBox t d x
+far-column t d e = column-all (farBox t d) (λ x l. ap (λ (f : ℕ → ℕ). f x) (sym (far-end t d)) ∙ far-past (t .segments) d e x (omega arith))
 
 -- The columns give the A end and the B end of any segment number.
 module _ (t : Table) (e : length (t .segments) ≡ 96) where

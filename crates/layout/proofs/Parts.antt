@@ -1,8 +1,7 @@
 -- The conditions on the parts of a table, with the columns of its own segments, are the conditions of `rules`.
-use Prim.Native.Nat.{ℕ, zero, suc, _+_, _≤_}
+use Prim.Native.Nat.{ℕ, _+_, _≤_}
 use mathlib.Core.Path.{_≡_, refl, sym, _∙_, ap}
-use mathlib.Core.Bool.{not}
-use mathlib.Core.List.{List, [], _∷_}
+use mathlib.Core.List.{List}
 use native.Mathlib.Decide.{ℕ-discrete}
 use native.Mathlib.Omega.{arith}
 use borrow.Author.Tests.{le-ltb}
@@ -11,11 +10,12 @@ use Rattle.rules.specs.declared.Segment.{Segment}
 use Rattle.rules.specs.declared.Table.{Table}
 use Rattle.rules.specs.Rows.{first, nth, listOf}
 use Rattle.rules.specs.Track.{noSegment, segmentAt, planAt, trainPlanAt, endA, endB, farBox, nearBox, follows}
-use Rattle.rules.specs.Loop.{anyBefore, following, chainEnds, isEmpty, hasLoop}
+use Rattle.rules.specs.Loop.{hasLoop}
 use Rattle.rules.specs.Network.{endsFault, hasEndA, hasEndB, listedFault, sideFault, boxFault, unlistedFault, headRows, networkRows}
 use Rattle.rules.specs.Placing.{routeFault, startFault, placingRows, conditionRows, tableCode}
 use Rattle.rules.proofs.Tests.{first-before}
 use Rattle.rules.proofs.Rows.{any-same, list-same, list-all}
+use Rattle.rules.proofs.Loop.{loop-same}
 use Rattle.loops.specs.Track.{endsIn, trackOf, loopIn}
 use Rattle.layout.specs.Ends.{column, farEnd, boxFaultOn, sharesStart}
 use Rattle.layout.specs.Parts.{endsFaultIn, planFaultIn, boxFaultIn, unlistedIn, shapeFaultIn, trainRouteFaultIn, startFaultIn, networkRowsIn, placingRowsIn, partsCode}
@@ -26,27 +26,6 @@ use Rattle.layout.proofs.Codes.{head-limits}
 -- Segments with the same ends are the same.
 same-ends : (a b x y : ℕ) → a ≡ x → b ≡ y → _≡_ {A = Segment} (record { a = a; b = b }) (record { a = x; b = y })
 same-ends a b x y e f = cc
-
--- Code 9 looks only at how many segments there are and at which follows which.
-module _ (t u : Table) (number : u .n ≡ t .n) (same : (s x : ℕ) → follows u 0 s x ≡ follows t 0 s x) where
-  before-same : (l : List ℕ) (x : ℕ) → anyBefore u l x ≡ anyBefore t l x
-  unfolding anyBefore
-  before-same [] x = refl
-  before-same (s ∷ l) x = rw (same s x, before-same l x)
-
-  following-same : (before l : List ℕ) → following u before l ≡ following t before l
-  unfolding following
-  following-same before [] = refl
-  following-same before (x ∷ l) = rw (before-same before x, following-same before l)
-
-  chain-same : (r : ℕ) → chainEnds u r ≡ chainEnds t r
-  unfolding chainEnds
-  chain-same zero = rw number
-  chain-same (suc r) = rw (chain-same r) (following-same (chainEnds t r) (chainEnds t r))
-
-  loop-same : hasLoop u ≡ hasLoop t
-  unfolding hasLoop
-  loop-same = ap (λ (l : List ℕ). not (isEmpty l)) (chain-same (u .n) ∙ ap (chainEnds t) number)
 
 module _ (t : Table) (sized : length (t .segments) ≡ 96) where
   -- The columns of A ends and of B ends.
@@ -81,7 +60,7 @@ module _ (t : Table) (sized : length (t .segments) ≡ 96) where
   track-same : t .n ≤ 96 → loopIn (t .n) a b ≡ hasLoop t
   unfolding loopIn follows farBox nearBox endA endB segmentAt
   track-same few =
-      rw (le-ltb 96 (t .n) few) (loop-same t (trackOf (t .n) a b) refl (λ s x. rw segments-same))
+      rw (le-ltb 96 (t .n) few) (loop-same t (trackOf (t .n) a b) refl (λ s x h k. rw segments-same))
 
   -- Code 11 at a train.
   route-same : (i : ℕ) → 1 ≤ i → i ≤ 16 → trainRouteFaultIn (t .n) (t .trains) (t .routes) a b i ≡ routeFault t (t .routes) i (trainPlanAt t i .direction) (trainPlanAt t i .length)

@@ -1,6 +1,6 @@
 -- What the conditions on routes say, in the words of the functions that test them.
-use Prim.Native.Nat.{ℕ, zero, suc, _+_, _-_, _*_, _≤_, _<_}
-use mathlib.Core.Path.{_≡_, refl, sym, _∙_}
+use Prim.Native.Nat.{ℕ, _+_, _-_, _*_, _≤_, _<_}
+use mathlib.Core.Path.{_≡_, sym, _∙_}
 use mathlib.Core.Bool.{Bool, true, false, not, _&&_, _||_}
 use mathlib.Core.List.{List}
 use native.Mathlib.Decide.{ℕ-discrete}
@@ -9,7 +9,7 @@ use borrow.Author.Tests.{eq-eqb, ne-eqb}
 use lib.Dec.{eqb, ltb}
 use lib.ListN.{length, getD}
 use Rattle.rules.proofs.Tests.{tests, outside-false-iff}
-use Rattle.rules.proofs.Rows.{none-found, any-same, nth-at, route-at, route-first}
+use Rattle.rules.proofs.Rows.{none-found, any-same, nth-at, route-index, route-past, route-first}
 use Rattle.rules.specs.declared.TrainPlan.{TrainPlan}
 use Rattle.rules.specs.declared.Table.{Table}
 use Rattle.rules.specs.Rows.{outside, anyOf}
@@ -21,18 +21,13 @@ use Rattle.layout.proofs.Laws.{a-column, b-column}
 
 -- The segment at the place with index p of train i's route.
 place-at : (routes : List ℕ) (i p : ℕ) → 1 ≤ i → p < 64 → routeAt routes i (p + 1) ≡ getD routes (64 * (i - 1) + p) 0
-place-at routes i p l h = let e : i - 1 + 1 ≡ i = omega arith in rw e at (route-at routes (i - 1) p h)
+place-at routes i p l h = route-index routes i (p + 1) _ l (omega arith) (omega arith) (omega arith)
 
 -- Code 11 of a route with more than 64 places: there is no place 65.
-place-past : (routes : List ℕ) (i : ℕ) → routeAt routes i 65 ≡ 0
-unfolding routeAt
-place-past routes zero = refl
-place-past routes (suc i) = refl
-
 pub breaks-past : (n : ℕ) (near far routes : List ℕ) (i r : ℕ) → 64 < r → true ≡ anyOf r (placeBreaks n near far routes i)
 unfolding placeBreaks outside
 breaks-past n near far routes i r l =
-    none-found r (placeBreaks n near far routes i) 64 l (rw (place-past routes i) (search tests))
+    none-found r (placeBreaks n near far routes i) 64 l (rw (route-past routes i 65 (omega arith)) (search tests))
 
 -- Code 11 at the place with index p of train i's route: an outside segment; one that does not follow the one before; and neither.
 module _ (n : ℕ) (near far routes : List ℕ) (i p : ℕ) (low : 1 ≤ i) (high : p < 64) where

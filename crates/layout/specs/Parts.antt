@@ -20,18 +20,18 @@ endsFaultIn m a b s = outside m (getD a s 0) || outside m (getD b s 0) || eqb (g
 
 -- Code 7 at box x.
 unfoldable pub planFaultIn : ℕ → List BoxPlan → ℕ → Bool
-planFaultIn n boxes x = planFault n (nth boxes x noBoxPlan)
+planFaultIn n plans x = planFault n (nth plans x noBoxPlan)
 
 -- Code 8 at box x.
 unfoldable pub boxFaultIn : List BoxPlan → List ℕ → List ℕ → ℕ → Bool
-boxFaultIn boxes a b x =
-    let p = nth boxes x noBoxPlan in
+boxFaultIn plans a b x =
+    let p = nth plans x noBoxPlan in
     boxFaultOn x p (endsIn a b (p .stem)) (endsIn a b (p .left)) (endsIn a b (p .right))
 
 -- Code 8 at segment s.
 unfoldable pub unlistedIn : List BoxPlan → List ℕ → List ℕ → ℕ → Bool
-unlistedIn boxes a b s =
-    not (lists (nth boxes (getD a s 0) noBoxPlan) s) || not (lists (nth boxes (getD b s 0) noBoxPlan) s)
+unlistedIn plans a b s =
+    not (lists (nth plans (getD a s 0) noBoxPlan) s) || not (lists (nth plans (getD b s 0) noBoxPlan) s)
 
 -- Codes 10, 11 and 12 at train i.
 unfoldable pub shapeFaultIn : List TrainPlan → ℕ → Bool
@@ -47,10 +47,10 @@ startFaultIn routes i = anyOf (i - 1) (sharesStart routes i)
 
 -- The network: codes 6 to 9.
 unfoldable pub networkRowsIn : ℕ → ℕ → List BoxPlan → List ℕ → List ℕ → List Row
-networkRowsIn n m boxes a b =
+networkRowsIn n m plans a b =
     6 if anyOf n (endsFaultIn m a b)
-    ∷ 7 if anyOf m (planFaultIn n boxes)
-    ∷ 8 if (anyOf m (boxFaultIn boxes a b) || anyOf n (unlistedIn boxes a b))
+    ∷ 7 if anyOf m (planFaultIn n plans)
+    ∷ 8 if (anyOf m (boxFaultIn plans a b) || anyOf n (unlistedIn plans a b))
     ∷ 9 if loopIn n a b
     ∷ []
 
@@ -65,5 +65,5 @@ placingRowsIn n k trains routes a b =
 -- The code of a table record: 3, 4 and 6 to 12, or 0.
 unfoldable pub partsCode
     : ℕ → ℕ → ℕ → ℕ → List BoxPlan → List TrainPlan → List ℕ → List ℕ → List ℕ → ℕ
-partsCode version n m k boxes trains routes a b =
-    first (headRows version n m k ++ (networkRowsIn n m boxes a b ++ placingRowsIn n k trains routes a b))
+partsCode version n m k plans trains routes a b =
+    first (headRows version n m k ++ (networkRowsIn n m plans a b ++ placingRowsIn n k trains routes a b))

@@ -34,25 +34,24 @@ pub fn head_code(version: u16, n: u8, m: u8, k: u8) -> u8
     0
 }
 
-// Codes 6 to 9 of a table record within its limits, with the boxes at the A ends and at the B ends of its segments.
-fn network_code(n: u8, m: u8, boxes: [BoxPlan; 96], a: &[u8; 256], b: &[u8; 256]) -> u8
-    requires { ⌜ n ≤ 96 ⌝ }
+// Codes 6 to 9 of a table record with at most 96 boxes, with the boxes at the A ends and at the B ends of its segments.
+fn network_code(n: u8, m: u8, plans: [BoxPlan; 96], a: &[u8; 256], b: &[u8; 256]) -> u8
     requires { ⌜ m ≤ 96 ⌝ }
-    ensures { λ r. ⌜ r ≡ first (networkRowsIn n m boxes (now (a .entry)) (now (b .entry))) ⌝ }
+    ensures { λ r. ⌜ r ≡ first (networkRowsIn n m plans (now (a .entry)) (now (b .entry))) ⌝ }
 {
     if network::some_ends_faulty(n, m, a, b) {
         return 6;
     }
-    if network::some_plan_faulty(n, m, boxes) {
+    if network::some_plan_faulty(n, m, plans) {
         return 7;
     }
-    if network::some_box_faulty(m, boxes, a, b) {
+    if network::some_box_faulty(m, plans, a, b) {
         return 8;
     }
-    if network::some_unlisted(n, boxes, a, b) {
+    if network::some_unlisted(n, plans, a, b) {
         return 8;
     }
-    if loops::has_loop(n, m, boxes, a, b) {
+    if loops::has_loop(n, m, plans, a, b) {
         return 9;
     }
     0
@@ -89,19 +88,19 @@ pub fn parts_code(
     n: u8,
     m: u8,
     k: u8,
-    boxes: [BoxPlan; 96],
+    plans: [BoxPlan; 96],
     trains: [TrainPlan; 16],
     routes: &[u8; 1024],
     a: &[u8; 256],
     b: &[u8; 256],
 ) -> u8
-    ensures { λ r. ⌜ r ≡ partsCode version n m k boxes trains (now (routes .entry)) (now (a .entry)) (now (b .entry)) ⌝ }
+    ensures { λ r. ⌜ r ≡ partsCode version n m k plans trains (now (routes .entry)) (now (a .entry)) (now (b .entry)) ⌝ }
 {
     let head = head_code(version, n, m, k);
     if head != 0 {
         return head;
     }
-    let network = network_code(n, m, boxes, a, b);
+    let network = network_code(n, m, plans, a, b);
     if network != 0 {
         return network;
     }
@@ -113,9 +112,9 @@ pub fn table_code(t: Table) -> u8
     ensures { λ r. ⌜ r ≡ tableCode t ⌝ }
 {
     let segments = t.segments;
-    let boxes = t.boxes;
+    let plans = t.boxes;
     let trains = t.trains;
     let a = network::far_boxes(segments, 1);
     let b = network::far_boxes(segments, 0);
-    parts_code(t.version, t.n, t.m, t.k, boxes, trains, &t.routes, &a, &b)
+    parts_code(t.version, t.n, t.m, t.k, plans, trains, &t.routes, &a, &b)
 }

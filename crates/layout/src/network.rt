@@ -119,14 +119,14 @@ fn plan_faulty(n: u8, p: BoxPlan) -> bool
 }
 
 // Code 7: some box is not as its kind asks.
-pub(crate) fn some_plan_faulty(n: u8, m: u8, boxes: [BoxPlan; 96]) -> bool
+pub(crate) fn some_plan_faulty(n: u8, m: u8, plans: [BoxPlan; 96]) -> bool
     requires { ⌜ m ≤ 96 ⌝ }
-    ensures { λ r. ⌜ r ≡ anyOf m (planFaultIn n boxes) ⌝ }
+    ensures { λ r. ⌜ r ≡ anyOf m (planFaultIn n plans) ⌝ }
 {
     let last = m as usize;
     let mut i: usize = 0;
     while i < last {
-        let p = boxes[i];
+        let p = plans[i];
         if plan_faulty(n, p) {
             return true;
         }
@@ -201,15 +201,15 @@ fn box_faulty(number: u8, p: BoxPlan, stem: Segment, left: Segment, right: Segme
 }
 
 // Code 8: some box lists a segment without an end there, or a branch on the stem's side.
-pub(crate) fn some_box_faulty(m: u8, boxes: [BoxPlan; 96], a: &[u8; 256], b: &[u8; 256]) -> bool
+pub(crate) fn some_box_faulty(m: u8, plans: [BoxPlan; 96], a: &[u8; 256], b: &[u8; 256]) -> bool
     requires { ⌜ m ≤ 96 ⌝ }
-    ensures { λ r. ⌜ r ≡ anyOf m (boxFaultIn boxes (now (a .entry)) (now (b .entry))) ⌝ }
+    ensures { λ r. ⌜ r ≡ anyOf m (boxFaultIn plans (now (a .entry)) (now (b .entry))) ⌝ }
 {
     let mut number: u8 = 0;
     while number < m {
         let i = number as usize;
         number += 1;
-        let p = boxes[i];
+        let p = plans[i];
         let stem = ends_in(a, b, p.stem);
         let left = ends_in(a, b, p.left);
         let right = ends_in(a, b, p.right);
@@ -234,17 +234,17 @@ fn lists(p: BoxPlan, s: u8) -> bool
 }
 
 // Code 8: some segment is not listed by the box at one of its ends. No end is without its box: code 6 comes before.
-pub(crate) fn some_unlisted(n: u8, boxes: [BoxPlan; 96], a: &[u8; 256], b: &[u8; 256]) -> bool
+pub(crate) fn some_unlisted(n: u8, plans: [BoxPlan; 96], a: &[u8; 256], b: &[u8; 256]) -> bool
     requires { ⌜ anyOf n (endsFaultIn 96 (now a) (now b)) ≡ false ⌝ }
-    ensures { λ r. ⌜ r ≡ anyOf n (unlistedIn boxes (now (a .entry)) (now (b .entry))) ⌝ }
+    ensures { λ r. ⌜ r ≡ anyOf n (unlistedIn plans (now (a .entry)) (now (b .entry))) ⌝ }
 {
     let mut number: u8 = 0;
     while number < n {
         number += 1;
         let at_a = (a[number as usize] - 1) as usize;
         let at_b = (b[number as usize] - 1) as usize;
-        let p = boxes[at_a];
-        let q = boxes[at_b];
+        let p = plans[at_a];
+        let q = plans[at_b];
         if !lists(p, number) {
             return true;
         }

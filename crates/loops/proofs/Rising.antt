@@ -1,37 +1,24 @@
 -- Laws of ranks of boxes: a pass that raises them along the segments, and what its end says of loops.
 use Prim.Native.Nat.{ℕ, zero, suc, _+_, _-_, _*_, _≤_, _<_}
 use mathlib.Core.Path.{_≡_, sym, _∙_, ap}
-use mathlib.Core.Logic.{_⊎_, inl, inr, ⊎-elim}
 use mathlib.Core.Bool.{Bool, true, false, false≢true}
 use mathlib.Core.List.{List, [], _∷_, List·Memᴰ}
-use native.Mathlib.Decide.{ℕ-discrete, decLt}
+use native.Mathlib.Decide.{ℕ-discrete}
 use native.Mathlib.Omega.{arith}
 use borrow.Author.Tests.{lt-ltb, le-ltb}
 use lib.ListN.{length, getD, set, replicate, length-set, length-replicate}
-use lib.Seq.{getD-set-same, getD-set-other, set-out}
 use Rattle.rules.specs.declared.Segment.{Segment}
 use Rattle.rules.specs.declared.Table.{Table}
 use Rattle.rules.specs.Rows.{nth, listOf}
 use Rattle.rules.specs.Track.{noSegment, segmentAt, endA, endB}
 use Rattle.rules.specs.Loop.{SegmentOf, chainEnds, hasLoop}
 use Rattle.rules.proofs.Rows.{nth-at, list-at}
+use Rattle.rules.proofs.Frames.{set-either}
 use Rattle.rules.proofs.Loop.{segment-ends, box-follows, ends-more, ends-loop, rising-no-loop}
 use Rattle.loops.specs.Track.{endsIn, trackOf, loopIn}
-use Rattle.loops.specs.Ranks.{Low, Reached, total, told, Ended}
+use Rattle.loops.specs.Ranks.{Low, ChainTo, Reached, total, told, Ended}
 use Rattle.loops.specs.declared.Pass.{Pass}
 use Rattle.loops.specs.declared.Pass.the-variants.{Rising, Raised, TooHigh}
-
--- A number of a list after a store: the one stored, at its place, or the old one.
-set-cases : (l : List ℕ) (i v x : ℕ) → ((x ≡ i) × (getD (set l i v) x 0 ≡ v)) ⊎ (getD (set l i v) x 0 ≡ getD l x 0)
-set-cases l i v x =
-    elim (ℕ-discrete x i) [
-      | no e ↦ inr (getD-set-other l i x v 0 e)
-      | yes e ↦
-          elim (decLt i (length l)) [
-            | yes h ↦ inl (e, rw e (getD-set-same l i v 0 h))
-            | no h ↦ inr (rw (set-out l i v (omega arith)))
-          ]
-    ]
 
 -- The sum of a list: it grows with a store of a higher number, and is at most its length times the highest.
 total-set : (l : List ℕ) (i v : ℕ) → i < length l → total (set l i v) + getD l i 0 ≡ total l + v
@@ -58,7 +45,7 @@ pub low-set : (l : List ℕ) (i v k : ℕ) → Low l → v < k → k ≤ 96 → 
 low-set l i v k h u w =
     record {
       size = length-set l i v ∙ h .size;
-      low = λ x. ⊎-elim (λ e. omega arith) (λ e. omega (arith, h .low x)) (set-cases l i v x);
+      low = λ x. set-either (λ y. y ≤ 96) l i x v 0 (λ e. omega arith) (h .low x);
     }
 
 pub low-reached : (t : Table) (l : List ℕ) → Low l → Reached t l
@@ -88,12 +75,10 @@ module _ (t : Table) where
       let v = getD l (endA t s) 0 + 1 in
       record {
         size = length-set l (endB t s) v ∙ h .size;
-        bounded = λ x. ⊎-elim (λ e. omega arith) (λ e. omega (arith, h .bounded x)) (set-cases l (endB t s) v x);
-        chained = λ x r e.
-            ⊎-elim
-            (λ w. record { last = s; listed = reach l s r h k (omega arith); there = sym (w .0) })
-            (λ w. h .chained x r (sym w ∙ e))
-            (set-cases l (endB t s) v x);
+        bounded = λ x. set-either (λ y. y ≤ t .n + 96) l (endB t s) x v 0 (λ e. omega arith) (h .bounded x);
+        chained = λ x r.
+            set-either (λ y. y ≡ 97 + r → ChainTo t r x) l (endB t s) x v 0
+            (λ e f. record { last = s; listed = reach l s r h k (omega arith); there = sym e }) (h .chained x r);
       }
 
   -- Where the rank at the A end of a segment is 96 + n, there is a loop.

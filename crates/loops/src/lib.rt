@@ -86,7 +86,7 @@ fn release(b: u8, count: &mut [u8; 256], order: &mut [u8; 96], known: usize) -> 
 }
 
 // A rank for each box: its place in the order, and 96 for those that the order does not come to.
-fn guess(n: u8, m: u8, boxes: [BoxPlan; 96], a: &[u8; 256], b: &[u8; 256]) -> [u8; 256]
+fn guess(n: u8, m: u8, plans: [BoxPlan; 96], a: &[u8; 256], b: &[u8; 256]) -> [u8; 256]
     ensures { λ r. ⌜ Low r ⌝ }
 {
     let mut count = entries(n, b);
@@ -98,7 +98,7 @@ fn guess(n: u8, m: u8, boxes: [BoxPlan; 96], a: &[u8; 256], b: &[u8; 256]) -> [u
         let number = order[done];
         ranks[index(number)] = done as u8;
         done += 1;
-        let p = boxes[place(number)];
+        let p = plans[place(number)];
         let stem = leads_to(number, p.stem, a, b);
         known = release(stem, &mut count, &mut order, known);
         let left = leads_to(number, p.left, a, b);
@@ -146,13 +146,13 @@ fn raise(n: u8, a: &[u8; 256], b: &[u8; 256], ranks: &mut [u8; 256]) -> Pass
 }
 
 // Code 9: some list of segments closes a loop; or there is room for no more segments.
-pub fn has_loop(n: u8, m: u8, boxes: [BoxPlan; 96], a: &[u8; 256], b: &[u8; 256]) -> bool
+pub fn has_loop(n: u8, m: u8, plans: [BoxPlan; 96], a: &[u8; 256], b: &[u8; 256]) -> bool
     ensures { λ r. ⌜ r ≡ loopIn n (now (a .entry)) (now (b .entry)) ⌝ }
 {
     if n > 96 {
         return true;
     }
-    let mut ranks = guess(n, m, boxes, a, b);
+    let mut ranks = guess(n, m, plans, a, b);
     loop {
         let pass = raise(n, a, b, &mut ranks);
         match pass {

@@ -127,16 +127,6 @@ bit-digit false = decimal-digit 0 (omega arith)
 pub short-bit : (x : Bool) (d : List ℕ) (at : ℕ) → Short 2 d at (decimal (bit x) ++ (32 ∷ [])) (at + 2) (set (set d at (48 + bit x)) (at + 1) 32)
 short-bit x d at = rw bit-digit (record { written = record { next = refl; bytes = rw add-one }; short = omega arith })
 
--- No segment stands before or after the 64 places of a route.
-pub route-before : (routes : List ℕ) (i : ℕ) → routeAt routes (i + 1) 0 ≡ 0
-unfolding routeAt
-route-before routes i = rw add-one
-
-pub route-past : (routes : List ℕ) (i p : ℕ) → 64 < p → routeAt routes (i + 1) p ≡ 0
-unfolding routeAt
-route-past routes i zero h = absurd (omega arith)
-route-past routes i (suc p) h = rw (add-one i, le-ltb p 64 (omega arith))
-
 -- A word that is stored whole.
 short-whole : {d w o : List ℕ} {at j : ℕ} → Written d at w j o → Short (length w) d at w j o
 short-whole a = record { written = a; short = omega (arith, a .next) }

@@ -1,5 +1,6 @@
 // Lines of the text, each of at most 18 bytes, and the lines of all steps, trains and boxes, one after the other.
 use crate::words;
+use deciding::sight;
 use rules::Line;
 use rules::SwitchBox;
 use rules::Train;
@@ -56,24 +57,9 @@ fn put_step_lines(steps: &[u8], answers: &[u8], text: &mut [u8]) -> usize
     j
 }
 
-// The segment at place p, counted from 1, of the route of train i + 1; 0 where there is none.
-fn segment_at(routes: &[u8; 1024], i: usize, p: usize) -> u8
-    requires { ⌜ i < 16 ⌝ }
-    ensures { λ r. ⌜ r ≡ routeAt (now (routes .entry)) (i + 1) p ⌝ }
-{
-    if p == 0 {
-        return 0;
-    }
-    if p > 64 {
-        return 0;
-    }
-    routes[64 * i + p - 1]
-}
-
-// The tail of train i + 1, 0 where it covers its front alone.
-fn tail(routes: &[u8; 1024], i: usize, place: u8, covered: u8) -> u8
-    requires { ⌜ i < 16 ⌝ }
-    ensures { λ r. ⌜ r ≡ cond (leb covered 1) 0 (routeAt (now (routes .entry)) (i + 1) (place + 1 - covered)) ⌝ }
+// The tail of the train with this number, 0 where it covers its front alone.
+fn tail(routes: &[u8; 1024], number: u8, place: u8, covered: u8) -> u8
+    ensures { λ r. ⌜ r ≡ cond (leb covered 1) 0 (routeAt (now (routes .entry)) number (place + 1 - covered)) ⌝ }
 {
     if covered <= 1 {
         return 0;
@@ -81,7 +67,7 @@ fn tail(routes: &[u8; 1024], i: usize, place: u8, covered: u8) -> u8
     if covered > place {
         return 0;
     }
-    segment_at(routes, i, (place - covered) as usize + 1)
+    sight::segment_at(routes, number, (place - covered) as usize + 1)
 }
 
 // The line of train i + 1, whose record this is.
@@ -90,10 +76,11 @@ fn put_train_line(r: Train, routes: &[u8; 1024], i: usize, text: &mut [u8], at: 
     requires { ⌜ at + 18 ≤ length (now text) ⌝ }
     ensures { λ j. ⌜ Short 18 (now (text .entry)) at (textLine (bytesOf "train" ∷ decimal (i + 1) ∷ decimal (routeAt (now (routes .entry)) (i + 1) (r .place)) ∷ decimal (cond (leb (r .covered) 1) 0 (routeAt (now (routes .entry)) (i + 1) (r .place + 1 - r .covered))) ∷ [])) j (now (text .exit)) ⌝ }
 {
-    let front = segment_at(routes, i, r.place as usize);
-    let last = tail(routes, i, r.place, r.covered);
+    let number = (i + 1) as u8;
+    let front = sight::segment_at(routes, number, r.place as usize);
+    let last = tail(routes, number, r.place, r.covered);
     let mut j = words::put_word(text, at, b"train ");
-    j = words::put_number(text, j, (i + 1) as u8, b' ');
+    j = words::put_number(text, j, number, b' ');
     j = words::put_number(text, j, front, b' ');
     words::put_number(text, j, last, b'\n')
 }

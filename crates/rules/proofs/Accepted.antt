@@ -103,13 +103,13 @@ pub record Accepted (t : Table) : Type 0 where
   pub starts : (i j : ℕ) → TrainOf t i → TrainOf t j → onRoute t i 1 ≡ onRoute t j 1 → i ≡ j
 
 -- The tests of a number of a segment or box, and over all segments, boxes and trains.
-pub segment-iff : (t : Table) (s : ℕ) → (outside (t .n) s ≡ false) ↔ SegmentOf t s
+segment-iff : (t : Table) (s : ℕ) → (outside (t .n) s ≡ false) ↔ SegmentOf t s
 segment-iff t s = simp outside-false-iff (omega arith)
 
-pub box-iff : (t : Table) (b : ℕ) → (outside (t .m) b ≡ false) ↔ BoxOf t b
+box-iff : (t : Table) (b : ℕ) → (outside (t .m) b ≡ false) ↔ BoxOf t b
 box-iff t b = simp outside-false-iff (omega arith)
 
-pub any-segment-iff : (t : Table) (f : ℕ → Bool) → (anyOf (t .n) f ≡ false) ↔ ((s : ℕ) → SegmentOf t s → f s ≡ false)
+any-segment-iff : (t : Table) (f : ℕ → Bool) → (anyOf (t .n) f ≡ false) ↔ ((s : ℕ) → SegmentOf t s → f s ≡ false)
 any-segment-iff t f = simp any-false-iff (λ e s h. e s (h .low) (h .high), λ e s l h. e s (omega arith))
 
 pub any-box-iff : (t : Table) (f : ℕ → Bool) → (anyOf (t .m) f ≡ false) ↔ ((b : ℕ) → BoxOf t b → f b ≡ false)

@@ -30,7 +30,7 @@ pair-iff s x y z =
     or-true-iff (eqb s y && eqb x z) (eqb s z && eqb x y) (simp facts Iff·rfl) (simp facts Iff·rfl)
 
 -- The test `joins` says yes exactly where the position joins the two segments.
-pub joins-iff : (p : BoxPlan) (y s x : ℕ) → (joins p y s x ≡ true) ↔ Joint p y s x
+joins-iff : (p : BoxPlan) (y s x : ℕ) → (joins p y s x ≡ true) ↔ Joint p y s x
 unfolding joins
 joins-iff p y s x =
     Iff·trans
@@ -73,7 +73,7 @@ position-fits p s x e = rw e (either (joins p 1 s x))
     either false = refl
 
 -- A branch is there at a box of its kind: on the left at links and points, on the right at points.
-pub branch-kind : {t : Table} {p : BoxPlan} {y s : ℕ} → Planned t p → SegmentOf t s → Branch p y s → (1 ≤ y) × (y ≤ p .kind)
+branch-kind : {t : Table} {p : BoxPlan} {y s : ℕ} → Planned t p → SegmentOf t s → Branch p y s → (1 ≤ y) × (y ≤ p .kind)
 branch-kind {p} h hs (onLeft f e) =
     elim (decLe 1 (p .kind)) [ yes k ↦ omega arith | no k ↦ let z = h .left .unused k in absurd (omega arith) ]
 branch-kind {p} h hs (onRight f e) =
@@ -85,14 +85,14 @@ one-side h hs e f =
     let k = branch-kind {y = 2} h hs (onRight refl f) in
     h .differ (omega arith) (e ∙ sym f)
 
-pub branch-once : {t : Table} {p : BoxPlan} {y z s : ℕ} → Planned t p → SegmentOf t s → Branch p y s → Branch p z s → y ≡ z
+branch-once : {t : Table} {p : BoxPlan} {y z s : ℕ} → Planned t p → SegmentOf t s → Branch p y s → Branch p z s → y ≡ z
 branch-once h hs (onLeft f e) (onLeft g k) = f ∙ sym g
 branch-once h hs (onLeft f e) (onRight g k) = absurd (one-side h hs e k)
 branch-once h hs (onRight f e) (onLeft g k) = absurd (one-side h hs k e)
 branch-once h hs (onRight f e) (onRight g k) = f ∙ sym g
 
 -- So only a link or a point joins two segments, and a link only at 1.
-pub joint-kind : {t : Table} {p : BoxPlan} {y s x : ℕ} → Planned t p → SegmentOf t s → SegmentOf t x → Joint p y s x
+joint-kind : {t : Table} {p : BoxPlan} {y s x : ℕ} → Planned t p → SegmentOf t s → SegmentOf t x → Joint p y s x
     → (1 ≤ y) × (y ≤ p .kind)
 joint-kind h hs hx (fromStem e r) = branch-kind h hx r
 joint-kind h hs hx (toStem e r) = branch-kind h hs r
@@ -126,7 +126,7 @@ module _ {t : Table} (a : Accepted t) {b : ℕ} (box : BoxOf t b) where
       a .sides b box .opposite y s r (omega arith) (stem-end .direction) there (rw e at there)
 
   -- The stem is on the other side than a branch: for a train that leaves the box on the branch, the stem lies behind.
-  pub stem-far : (y s d : ℕ) → SegmentOf t s → Branch (planAt t b) y s → nearBox t d s ≡ b → farBox t d (planAt t b .stem) ≡ b
+  stem-far : (y s d : ℕ) → SegmentOf t s → Branch (planAt t b) y s → nearBox t d s ≡ b → farBox t d (planAt t b .stem) ≡ b
   stem-far y s d hs r e =
       ⊎-elim
       (λ f. absurd (a .sides b box .opposite y s r (omega arith) d (f ∙ stem-end .there) e))
@@ -134,7 +134,7 @@ module _ {t : Table} (a : Accepted t) {b : ℕ} (box : BoxOf t b) where
       (either-end t _ d (stem-end .direction))
 
   -- The same for a train that comes to the box on the branch.
-  pub stem-near : (y s d : ℕ) → SegmentOf t s → Branch (planAt t b) y s → farBox t d s ≡ b → nearBox t d (planAt t b .stem) ≡ b
+  stem-near : (y s d : ℕ) → SegmentOf t s → Branch (planAt t b) y s → farBox t d s ≡ b → nearBox t d (planAt t b .stem) ≡ b
   stem-near y s d hs r e = near-back t d _ ∙ stem-far y s (back d) hs r (sym (far-back t d s) ∙ e)
 
   -- One position joins two segments.

@@ -45,7 +45,7 @@ module _ {ℓ} {A : Type ℓ} where
   set-length l (suc i) a = length-set l i a
 
   -- What holds of the i-th as replaced and of all as they were holds of all, whether there is an i-th or not.
-  set-either : (P : A → Type 0) (l : List A) (i j : ℕ) (a d : A) → (j ≡ i → P a) → P (getD l j d) → P (getD (set l i a) j d)
+  pub set-either : (P : A → Type 0) (l : List A) (i j : ℕ) (a d : A) → (j ≡ i → P a) → P (getD l j d) → P (getD (set l i a) j d)
   set-either P [] i j a d h k = k
   set-either P (x ∷ l) zero zero a d h k = h refl
   set-either P (x ∷ l) zero (suc j) a d h k = k
@@ -124,7 +124,7 @@ module _ (l : Line) (i : ℕ) (r : Train) (b : ℕ) (x : SwitchBox) where
   every-box P this all c = nth-either P (l .boxes) b x noBox this all c
 
 -- What stood there put back changes nothing.
-pub box-back : (l : Line) (b : ℕ) → putBox l b (boxAt l b) ≡ l
+box-back : (l : Line) (b : ℕ) → putBox l b (boxAt l b) ≡ l
 unfolding putBox boxAt
 box-back l b = rw (set-back (l .boxes) b noBox)
 

@@ -14,7 +14,7 @@ use Rattle.rules.specs.declared.Message.the-variants.{Idle, Sent, Answer
 use Rattle.rules.specs.declared.Train.{Train}
 use Rattle.rules.specs.declared.Line.{Line}
 use Rattle.rules.specs.declared.Outcome.{Outcome}
-use Rattle.rules.specs.Rows.{_if_, first}
+use Rattle.rules.specs.Rows.{first}
 use Rattle.rules.specs.Track.{planAt}
 use Rattle.rules.specs.declared.Around.{Around}
 use Rattle.rules.specs.Line.{aroundTrain, around, trainAt, putTrain, putBox}

@@ -161,7 +161,7 @@ module _ (t : Table) where
       ]
 
   -- Where the test says yes, there is a loop.
-  pub loop-found : hasLoop t ≡ true → Loop t
+  loop-found : hasLoop t ≡ true → Loop t
   unfolding hasLoop chainEnds listOf
   loop-found e =
       let (s, m) = member _ e in
@@ -205,7 +205,7 @@ module _ (t : Table) where
       following-has _ (loop-ends c r m) (among (λ s. loop-ends c r) (loop-before c m))
 
   -- Where there is a loop, the test says yes.
-  pub found-loop : Loop t → hasLoop t ≡ true
+  found-loop : Loop t → hasLoop t ≡ true
   unfolding hasLoop
   found-loop c = has-member _ (loop-ends c (t .n) (chain-last (c .chain)))
 
@@ -223,7 +223,7 @@ module _ (t : Table) where
   unfolding follows
   follows-iff d s x = eqb-true-iff (farBox t d s) (nearBox t d x)
 
-  pub follows-box : (s x : ℕ) → follows t 0 s x ≡ true → endB t s ≡ endA t x
+  follows-box : (s x : ℕ) → follows t 0 s x ≡ true → endB t s ≡ endA t x
   unfolding farBox nearBox
   follows-box s x = follows-iff 0 s x .0
 
@@ -254,3 +254,44 @@ module _ (t : Table) where
     rising-no-loop =
         no-loop-iff .1 (λ c.
         omega (arith, chain-rises (c .chain), ap rank (follows-box (c .last) (c .first) (c .closed))))
+
+-- Two tables with as many segments, which follow each other alike: a loop of one is a loop of the other.
+module _ (t u : Table) (number : u .n ≡ t .n)
+    (alike : (s x : ℕ) → SegmentOf t s → SegmentOf t x → follows u 0 s x ≡ follows t 0 s x) where
+  segment-alike : {s : ℕ} → SegmentOf u s → SegmentOf t s
+  segment-alike h = record { low = h .low; high = omega (arith, h .high) }
+
+  chain-alike : {s z : ℕ} {l : List ℕ} → Chain u s l z → Chain t s l z × SegmentOf t s × SegmentOf t z
+  chain-alike (single h) = let k = segment-alike h in (single k, k, k)
+  chain-alike (more {s = s} {x = x} h f c) =
+      let (d, first, last) = chain-alike c in
+      let k = segment-alike h in
+      (more k (rw (alike s x k first) at f) d, k, last)
+
+  loop-alike : Loop u → Loop t
+  loop-alike c =
+      let (chain, first, last) = chain-alike (c .chain) in
+      record {
+        first = c .first;
+        segments = c .segments;
+        last = c .last;
+        chain = chain;
+        closed = rw (alike (c .last) (c .first) last first) at (c .closed);
+      }
+
+-- So the test says the same of both.
+pub loop-same : (t u : Table) → u .n ≡ t .n → ((s x : ℕ) → SegmentOf t s → SegmentOf t x → follows u 0 s x ≡ follows t 0 s x)
+    → hasLoop u ≡ hasLoop t
+loop-same t u number alike =
+    true-alike _ _
+    (λ e. found-loop t (loop-alike t u number alike (loop-found u e)))
+    (λ e.
+    found-loop u
+    (loop-alike u t (sym number)
+    (λ s x h k. sym (alike s x (segment-alike t u number alike h) (segment-alike t u number alike k)))
+    (loop-found t e)))
+  where
+    true-alike : (a b : Bool) → (a ≡ true → b ≡ true) → (b ≡ true → a ≡ true) → a ≡ b
+    true-alike true b h k = sym (h refl)
+    true-alike false true h k = k refl
+    true-alike false false h k = refl

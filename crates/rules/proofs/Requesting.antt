@@ -1,5 +1,5 @@
 -- A granted request leaves trains and boxes fitting together.
-use Prim.Native.Nat.{ℕ, _+_, _-_, _<_}
+use Prim.Native.Nat.{ℕ, _+_, _<_}
 use mathlib.Core.Path.{_≡_, refl, sym, _∙_}
 use mathlib.Core.Logic.{_⊎_, inl, inr, ⊎-elim, Iff·rfl, _≢_}
 use mathlib.Core.Bool.{true, false}

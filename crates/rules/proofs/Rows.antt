@@ -8,7 +8,7 @@ use native.Mathlib.Decide.{ℕ-discrete, decLt}
 use native.Mathlib.Nat.{zero-add, add-zero, suc-add, mul-zero, mul-suc}
 use native.Mathlib.Numerals.{add-one}
 use native.Mathlib.Omega.{arith}
-use borrow.Author.Tests.{lt-ltb}
+use borrow.Author.Tests.{lt-ltb, le-ltb}
 use lib.ListN.{length, getD, set, take, replicate, length-append, length-take, length-replicate, List·getD-append, List·getD-eq-default, length-map}
 use lib.Seq.{sets, take-all, length-take-le, getD-take, getD-append-add, ext-getD}
 use Rattle.rules.specs.Rows.{anyOf, nth, listFrom, listOf, joinFrom, joinOf, filled}
@@ -87,10 +87,20 @@ once f n h p q a b c d e =
     ]
 
 module _ {ℓ} {A : Type ℓ} where
-  -- The i-th of a list.
+  -- The i-th of a list stands at index i - 1; past the end there is none.
   pub nth-at : (l : List A) (i : ℕ) (d : A) → nth l (i + 1) d ≡ getD l i d
   unfolding nth
   nth-at l i d = rw add-one
+
+  pub nth-before : (l : List A) (i : ℕ) (d : A) → 1 ≤ i → nth l i d ≡ getD l (i - 1) d
+  unfolding nth
+  nth-before l zero d h = absurd (omega arith)
+  nth-before l (suc i) d h = let e : suc i - 1 ≡ i = omega arith in rw e
+
+  pub nth-past : (l : List A) (i : ℕ) (d : A) → length l < i → nth l i d ≡ d
+  unfolding nth
+  nth-past l zero d h = refl
+  nth-past l (suc i) d h = List·getD-eq-default l d (omega arith)
 
   -- f i, f (i + 1) and so on: how many, and what stands there.
   pub from-length : (f : ℕ → A) (n i : ℕ) → length (listFrom i n f) ≡ n
@@ -303,10 +313,29 @@ module _ {ℓ} {A : Type ℓ} where
       let e : at + suc (length v) ≡ suc at + length v = omega arith in
       rw e (sets-append v w (set l at a) (suc at))
 
+-- Place p of the route of train i, counted from 1, at its index; no segment stands before the first or past the last of its 64 places.
+pub route-index : (routes : List ℕ) (i p j : ℕ) → 1 ≤ i → 1 ≤ p → p ≤ 64 → j ≡ 64 * (i - 1) + p - 1 → routeAt routes i p ≡ getD routes j 0
+unfolding routeAt
+route-index routes zero p j low first last e = absurd (omega arith)
+route-index routes (suc i) zero j low first last e = absurd (omega arith)
+route-index routes (suc i) (suc p) j low first last e =
+    let index : 64 * i + p ≡ j = omega arith in
+    rw (lt-ltb p 64 last, index)
+
+pub route-before : (routes : List ℕ) (i : ℕ) → routeAt routes i 0 ≡ 0
+unfolding routeAt
+route-before routes zero = refl
+route-before routes (suc i) = refl
+
+pub route-past : (routes : List ℕ) (i p : ℕ) → 64 < p → routeAt routes i p ≡ 0
+unfolding routeAt
+route-past routes zero p h = refl
+route-past routes (suc i) zero h = refl
+route-past routes (suc i) (suc p) h = rw (le-ltb p 64 (omega arith))
+
 -- Place p + 1 of the route of train i + 1, and its first place.
 pub route-at : (routes : List ℕ) (i p : ℕ) → p < 64 → routeAt routes (i + 1) (p + 1) ≡ getD routes (64 * i + p) 0
-unfolding routeAt
-route-at routes i p h = rw (add-one i, add-one p, lt-ltb p 64)
+route-at routes i p h = route-index routes (i + 1) (p + 1) _ (omega arith) (omega arith) (omega arith) (omega arith)
 
 pub route-first : (routes : List ℕ) (i : ℕ) → routeAt routes (i + 1) 1 ≡ getD routes (64 * i) 0
 route-first routes i =

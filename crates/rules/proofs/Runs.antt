@@ -68,7 +68,7 @@ unfolding answersFrom
 answers-length call l bytes = rw (length-append, events-length, steps-length) (partial-length bytes)
 
 -- A run that is not refused is one of an accepted file.
-pub run-accepted : (file steps buffer : List ℕ) → runCode file steps buffer ≡ 0 → fileCode file ≡ 0
+run-accepted : (file steps buffer : List ℕ) → runCode file steps buffer ≡ 0 → fileCode file ≡ 0
 unfolding runCode
 run-accepted file steps buffer e = first-code-iff (fileCode file) _ .0 e .0
 

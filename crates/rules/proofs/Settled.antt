@@ -136,7 +136,7 @@ settled-sent t routes i r q e = ap (settledBy (aroundTrain t routes i r) r) e
 
 -- Train i by its record r, its route in `routes`, once settled.
 module _ (t : Table) (routes : List ℕ) (i : ℕ) (r : Train) where
-  pub settled-alike : Alike (settledTrain t routes i r) r
+  settled-alike : Alike (settledTrain t routes i r) r
   unfolding settledTrain settledBy
   settled-alike = go (r .message)
     where

@@ -30,7 +30,7 @@ use Rattle.rules.proofs.SettledSteps.{send-settled, deny-settled, hear-
 use Rattle.rules.proofs.Settled.{sized, heard-message}
 
 -- The step that makes a request of train i.
-abbrev pub requestStep : ℕ → Request → Step
+abbrev requestStep : ℕ → Request → Step
 requestStep i q = record { kind = requestKind q; train = i; box = requestBox q }
 
 -- A request that is sent is the one kept for its train.

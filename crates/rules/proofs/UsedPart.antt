@@ -1,6 +1,6 @@
 -- The conditions on a table look only at its used part: where a table's code is 0, so is that of its used part.
 use Prim.Native.Nat.{ℕ, zero, suc, _+_, _-_, _*_, _≤_, _<_}
-use mathlib.Core.Path.{_≡_, refl, sym, _∙_}
+use mathlib.Core.Path.{_≡_, refl, _∙_}
 use mathlib.Core.Bool.{Bool}
 use mathlib.Core.List.{List}
 use native.Mathlib.Decide.{ℕ-discrete, decLe}
@@ -11,12 +11,11 @@ use borrow.Author.Tests.{lt-ltb}
 use Rattle.rules.specs.declared.Table.{Table}
 use Rattle.rules.specs.Rows.{anyOf, nth, listOf, joinOf, filled}
 use Rattle.rules.specs.Track.{noSegment, noBoxPlan, noTrainPlan, segmentAt, planAt, trainPlanAt, routeAt, endA, endB, farBox, nearBox, follows}
-use Rattle.rules.specs.Loop.{SegmentOf, Chain, single, more, Loop, hasLoop}
 use Rattle.rules.specs.Network.{endsFault, planFault, hasEndA, hasEndB, listedFault, sideFault, boxFault, unlistedFault, headRows, networkRows}
 use Rattle.rules.specs.Placing.{routeShapeFault, routePlaceFault, routeFault, startFault, placingRows, conditionRows, tableCode}
 use Rattle.rules.specs.File.{usedPart}
 use Rattle.rules.proofs.Rows.{any-same, filled-length, filled-same, join-at, list-at, filled-nth}
-use Rattle.rules.proofs.Loop.{no-loop-iff}
+use Rattle.rules.proofs.Loop.{loop-same}
 use Rattle.rules.proofs.Accepted.{UsedIf, Accepted, accepted}
 
 -- A test over all records finds the same in two tables with as many records, where it finds the same at each.
@@ -90,32 +89,6 @@ module _ (t u : Table) (same : SameUse t u) (ok : Accepted t) where
       let box = ok .ends s (omega arith) .box in
       rw (a-same s h, b-same s h, same .boxes (endA t s) (box 0 .high), same .boxes (endB t s) (box 1 .high))
 
-  -- A loop of the second table is a loop of the first.
-  segment-same : (s : ℕ) → SegmentOf u s → SegmentOf t s
-  segment-same s h = record { low = h .low; high = omega (arith, h .high, same .n) }
-
-  chain-same : {s z : ℕ} {l : List ℕ} → Chain u s l z → Chain t s l z × (s ≤ t .n) × (z ≤ t .n)
-  chain-same (single {s = s} h) = let k = segment-same s h in (single k, k .high, k .high)
-  chain-same (more {s = s} {x = x} h f c) =
-      let (d, first, last) = chain-same c in
-      let k = segment-same s h in
-      (more k (rw (follows-same 0 s x (k .high) first) at f) d, k .high, last)
-
-  loop-same : Loop u → Loop t
-  loop-same c =
-      let (chain, first, last) = chain-same (c .chain) in
-      record {
-        first = c .first;
-        segments = c .segments;
-        last = c .last;
-        chain = chain;
-        closed = rw (follows-same 0 (c .last) (c .first) last first) at (c .closed);
-      }
-
-  -- So neither has one.
-  no-loop : hasLoop u ≡ hasLoop t
-  no-loop = no-loop-iff u .1 (λ c. ok .noLoop (loop-same c)) ∙ sym (no-loop-iff t .1 (ok .noLoop))
-
   -- Codes 10 to 12 at a train.
   shape-same : (i : ℕ) → 1 ≤ i → i ≤ t .k
       → routeShapeFault (trainPlanAt u i .direction) (trainPlanAt u i .length) ≡ routeShapeFault (trainPlanAt t i .direction) (trainPlanAt t i .length)
@@ -143,7 +116,7 @@ module _ (t u : Table) (same : SameUse t u) (ok : Accepted t) where
       rw (same .routes i 1 h (ok .routes i (omega arith) .low), same .routes j 1 (omega arith) (ok .routes j (omega arith) .low))
 
   -- So the other has the same code.
-  pub same-code : tableCode u ≡ tableCode t
+  same-code : tableCode u ≡ tableCode t
   unfolding tableCode headRows conditionRows networkRows placingRows
   same-code =
       rw (
@@ -151,7 +124,7 @@ module _ (t u : Table) (same : SameUse t u) (ok : Accepted t) where
         test-same (same .m) plan-same,
         test-same (same .m) box-same,
         test-same (same .n) unlisted-same,
-        no-loop,
+        loop-same t u (same .n) (λ s x h k. follows-same 0 s x (h .high) (k .high)),
         test-same (same .k) shape-same,
         test-same (same .k) route-same,
         test-same (same .k) start-same,

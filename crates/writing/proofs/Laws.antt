@@ -19,7 +19,7 @@ use Rattle.rules.proofs.Rows.{nth-at, list-none, list-more, list-length, join-n
 use Rattle.writing.specs.Written.{Bounded, Written}
 
 -- Nothing stored; two lists stored one after the other; and the length, which no store changes.
-pub written-none : (d : List ℕ) (at : ℕ) → Written d at [] at d
+written-none : (d : List ℕ) (at : ℕ) → Written d at [] at d
 written-none d at = record { next = omega arith; bytes = refl }
 
 pub written-append : {d v w o p : List ℕ} {at j k : ℕ} → Written d at v j o → Written o j w k p → Written d at (v ++ w) k p
@@ -55,15 +55,15 @@ written-list f {d} {o} {at} {j} {x} h e a =
     rw (n, list-more, sym e) (written-append a (record { next = refl; bytes = refl }))
 
 -- The records of segment i + 1, box i + 1 and train i + 1.
-pub segment-bytes : (t : Table) (i : ℕ) → segmentBytes t (i + 1) ≡ getD (t .segments) i noSegment .a ∷ getD (t .segments) i noSegment .b ∷ []
+segment-bytes : (t : Table) (i : ℕ) → segmentBytes t (i + 1) ≡ getD (t .segments) i noSegment .a ∷ getD (t .segments) i noSegment .b ∷ []
 unfolding segmentBytes segmentAt
 segment-bytes t i = rw nth-at
 
-pub box-bytes : (t : Table) (i : ℕ) → let p = getD (t .boxes) i noBoxPlan in boxBytes t (i + 1) ≡ p .kind ∷ p .stem ∷ p .left ∷ p .right ∷ p .position ∷ []
+box-bytes : (t : Table) (i : ℕ) → let p = getD (t .boxes) i noBoxPlan in boxBytes t (i + 1) ≡ p .kind ∷ p .stem ∷ p .left ∷ p .right ∷ p .position ∷ []
 unfolding boxBytes planAt
 box-bytes t i = rw nth-at
 
-pub train-bytes : (t : Table) (i : ℕ) → let p = getD (t .trains) i noTrainPlan in trainBytes t (i + 1) ≡ p .direction ∷ p .length ∷ listOf (p .length) (routeAt (t .routes) (i + 1))
+train-bytes : (t : Table) (i : ℕ) → let p = getD (t .trains) i noTrainPlan in trainBytes t (i + 1) ≡ p .direction ∷ p .length ∷ listOf (p .length) (routeAt (t .routes) (i + 1))
 unfolding trainBytes trainPlanAt
 train-bytes t i = rw nth-at
 
@@ -90,7 +90,7 @@ pub written-train : (t : Table) (i : ℕ) {d o q : List ℕ} {at j r : ℕ} → 
 written-train t i a b = written-join (trainBytes t) i a (rw train-bytes b)
 
 -- The lengths of the train records.
-pub train-length : (t : Table) (i : ℕ) → length (trainBytes t (i + 1)) ≡ 2 + getD (t .trains) i noTrainPlan .length
+train-length : (t : Table) (i : ℕ) → length (trainBytes t (i + 1)) ≡ 2 + getD (t .trains) i noTrainPlan .length
 train-length t i = rw train-bytes (omega (arith, list-length (routeAt (t .routes) (i + 1)) (getD (t .trains) i noTrainPlan .length)))
 
 pub trains-more : (t : Table) (i : ℕ) → length (joinOf (i + 1) (trainBytes t)) ≡ length (joinOf i (trainBytes t)) + 2 + getD (t .trains) i noTrainPlan .length

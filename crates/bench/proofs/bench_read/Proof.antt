@@ -7,17 +7,8 @@ use borrow.Author.Needs.{needs}
 use Rattle.bench.proofs.bench_read.Statement.{statement}
 use Rattle.bench.proofs.bench_read.Tie as tie
 
-read-requires : tie.Need-read-requires
-read-requires c κs = search needs
-
-cast-sampled : tie.Need-cast-sampled
-cast-sampled c = search needs
-
-sampled-requires : tie.Need-sampled-requires
-sampled-requires c κs = search needs
-
 returns : tie.Need-returns
 returns c = c .sampled .ensures ∙ ap (λ (o : Outcome). sample o (c .before .before .before .args .i % 16)) (c .before .read .ensures)
 
 pub bench-read-spec : {M : Type 1} → statement M
-bench-read-spec = tie.close (tie.spec read-requires cast-sampled sampled-requires returns)
+bench-read-spec = tie.close (tie.spec (λ c κs. search needs) (λ c. search needs) (λ c κs. search needs) returns)

@@ -30,7 +30,7 @@ returns-3 c = search tests depth 20 fits 20000
 some-unlisted-requires : tie.Need-some-unlisted-requires
 some-unlisted-requires c κs =
     let p = c .before .before .before .before .before in
-    ends-more _ _ _ _ (answered _ _ _ (p .some-ends-faulty .ensures) (c .before .before .before .before .if1 .left)) 96 (p .before .pre .1)
+    ends-more _ _ _ _ (answered _ _ _ (p .some-ends-faulty .ensures) (c .before .before .before .before .if1 .left)) 96 (p .before .pre)
 
 returns-4 : tie.Need-returns-4
 unfolding networkRowsIn

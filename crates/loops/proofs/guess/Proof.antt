@@ -7,10 +7,10 @@ use Rattle.loops.proofs.guess.Statement.{statement}
 use Rattle.loops.proofs.guess.Tie as tie
 
 abbrev Inv-loop : tie.InvT-loop
-Inv-loop n m a b boxes count₀ order₀ known₀ ranks₀ done₀ count order known ranks done = (known ≤ 96) × Low ranks
+Inv-loop n m a b plans count₀ order₀ known₀ ranks₀ done₀ count order known ranks done = (known ≤ 96) × Low ranks
 
 abbrev μ-loop : tie.MeasureT-loop
-μ-loop n m a b boxes count₀ order₀ known₀ ranks₀ done₀ count order known ranks done = 96 - done
+μ-loop n m a b plans count₀ order₀ known₀ ranks₀ done₀ count order known ranks done = 96 - done
 
 pub guess-spec : {M : Type 1} → statement M
 guess-spec =

@@ -20,6 +20,11 @@ raised-again c =
     let s = q .before .before in
     passing-raised _ (s .pre .0) (s .args .a .now) (s .args .b .now) _ _ _ _ (q .before .loop .inv) _ _ (p .before .before .index .ensures .0) (p .index2 .ensures .0) (q .loop-test .taken) (p .index2 .ensures .1) (omega arith) (c .if2 .left)
 
+raised-end : tie.Need-returns-2 Inv-loop μ-loop
+raised-end c =
+    let start = c .before .before .before in
+    passed-raised _ (start .pre .0) (start .args .a .now) (start .args .b .now) _ _ _ _ (c .before .before .loop .inv) (c .if3 .taken)
+
 pub raise-spec : {M : Type 1} → statement M
 raise-spec =
     tie.close
@@ -44,5 +49,5 @@ raise-spec =
     raised-again
     (λ c. search needs)
     (λ c. search passing-kept)
-    (λ c. search passed-raised)
+    raised-end
     (λ c. search passed-rising))

@@ -12,45 +12,18 @@ Inv-loop file k out₀ filled last at₀ train₀ out at train = length out ≡ 
 abbrev μ-loop : tie.MeasureT-loop
 μ-loop file k out₀ filled last at₀ train₀ out at train = last - train
 
-one-more-requires : tie.Need-one-more-requires Inv-loop μ-loop
-one-more-requires c κs = search needs
-
-loop-holds : tie.Need-loop-holds Inv-loop μ-loop
-loop-holds c = search needs
-
-add-shown-requires : tie.Need-add-shown-requires Inv-loop μ-loop
-add-shown-requires c κs = search needs
-
-add-train : tie.Need-add-train Inv-loop μ-loop
-add-train c = search needs
-
-loop-less : tie.Need-loop-less Inv-loop μ-loop
-loop-less c = search needs
-
-loop-again : tie.Need-loop-again Inv-loop μ-loop
-loop-again c = search needs
-
-add-route-requires : tie.Need-add-route-requires Inv-loop μ-loop
-add-route-requires c κs = search needs
-
-same-length : tie.Need-same-length Inv-loop μ-loop
-same-length c = search needs
-
-returns : tie.Need-returns Inv-loop μ-loop
-returns c = search needs
-
 pub add-routes-spec : {M : Type 1} → statement M
 add-routes-spec =
     tie.close
     (tie.spec
     Inv-loop
     μ-loop
-    one-more-requires
-    loop-holds
-    add-shown-requires
-    add-train
-    loop-less
-    loop-again
-    add-route-requires
-    same-length
-    returns)
+    (λ c κs. search needs)
+    (λ c. search needs)
+    (λ c κs. search needs)
+    (λ c. search needs)
+    (λ c. search needs)
+    (λ c. search needs)
+    (λ c κs. search needs)
+    (λ c. search needs)
+    (λ c. search needs))

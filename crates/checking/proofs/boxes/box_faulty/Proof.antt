@@ -1,12 +1,11 @@
 -- Each answer is that of the definition, test by test.
+use mathlib.Core.Path.{refl}
 use Rattle.rules.proofs.Tests.{tests}
 use borrow.Author.Needs.{needs}
 use Rattle.checking.specs.Faults.{boxFaultWith}
+use Rattle.checking.proofs.Laws.{last-holder}
 use Rattle.checking.proofs.boxes.box_faulty.Statement.{statement}
 use Rattle.checking.proofs.boxes.box_faulty.Tie as tie
-
-position-fits-requires : tie.Need-position-fits-requires
-position-fits-requires c κs = search needs
 
 returns : tie.Need-returns
 unfolding boxFaultWith
@@ -25,9 +24,13 @@ unfolding boxFaultWith
 returns-4 c = search tests depth 12
 
 returns-5 : tie.Need-returns-5
-unfolding boxFaultWith
-returns-5 c = search tests depth 12
+returns-5 c =
+    let left = c .before in
+    let stem = left .before .before in
+    let lock = stem .before .before in
+    let fits = lock .before .before in
+    last-holder _ _ _ _ _ (fits .before .position-fits .ensures) (fits .if1 .left) (lock .if2 .left) (stem .if3 .left) (left .if4 .left) refl
 
 pub box-faulty-spec : {M : Type 1} → statement M
 box-faulty-spec =
-    tie.close (tie.spec position-fits-requires returns returns-2 returns-3 returns-4 returns-5)
+    tie.close (tie.spec (λ c κs. search needs) returns returns-2 returns-3 returns-4 returns-5)

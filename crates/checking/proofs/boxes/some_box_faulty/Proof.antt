@@ -23,37 +23,10 @@ returns : tie.Need-returns Inv-loop μ-loop
 unfolding boxesFault
 returns c = is-true _ (or-left _ _ (lt-ltb _ _ (c .if1 .taken)))
 
-loop-holds : tie.Need-loop-holds Inv-loop μ-loop
-loop-holds c = none-start _ _
-
-add-loop : tie.Need-add-loop Inv-loop μ-loop
-add-loop c = omega arith
-
-mul-p : tie.Need-mul-p Inv-loop μ-loop
-mul-p c = omega arith
-
-array-copy-out-p : tie.Need-array-copy-out-p Inv-loop μ-loop
-array-copy-out-p c = omega arith
-
-mul-x : tie.Need-mul-x Inv-loop μ-loop
-mul-x c = omega arith
-
-array-copy-out-x : tie.Need-array-copy-out-x Inv-loop μ-loop
-array-copy-out-x c = omega arith
-
-box-faulty-requires : tie.Need-box-faulty-requires Inv-loop μ-loop
-box-faulty-requires c κs = search needs
-
 returns-2 : tie.Need-returns-2 Inv-loop μ-loop
 unfolding boxesFault
 returns-2 c =
     or-last _ _ _ (le-ltb _ _ (c .before .before .before .before .before .before .if1 .left)) (none-found _ _ (c .before .before .before .before .before .loop .i) (omega arith) (box-answer _ _ _ _ _ _ (c .before .box-faulty .ensures) (c .if2 .taken)))
-
-add-i : tie.Need-add-i Inv-loop μ-loop
-add-i c = omega arith
-
-loop-less : tie.Need-loop-less Inv-loop μ-loop
-loop-less c = omega arith
 
 loop-again : tie.Need-loop-again Inv-loop μ-loop
 loop-again c =
@@ -70,15 +43,15 @@ some-box-faulty-spec =
     Inv-loop
     μ-loop
     returns
-    loop-holds
-    add-loop
-    mul-p
-    array-copy-out-p
-    mul-x
-    array-copy-out-x
-    box-faulty-requires
+    (λ c. none-start _ _)
+    (λ c. omega arith)
+    (λ c. omega arith)
+    (λ c. omega arith)
+    (λ c. omega arith)
+    (λ c. omega arith)
+    (λ c κs. search needs)
     returns-2
-    add-i
-    loop-less
+    (λ c. omega arith)
+    (λ c. omega arith)
     loop-again
     returns-3)

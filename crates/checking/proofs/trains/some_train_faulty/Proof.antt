@@ -23,31 +23,10 @@ returns : tie.Need-returns Inv-loop μ-loop
 unfolding trainsFault
 returns c = is-true _ (or-left _ _ (lt-ltb _ _ (c .if1 .taken)))
 
-loop-holds : tie.Need-loop-holds Inv-loop μ-loop
-loop-holds c = none-start _ _
-
-cast-i : tie.Need-cast-i Inv-loop μ-loop
-cast-i c = omega arith
-
-add-number : tie.Need-add-number Inv-loop μ-loop
-add-number c = omega arith
-
-mul-r : tie.Need-mul-r Inv-loop μ-loop
-mul-r c = omega arith
-
-array-copy-out-r : tie.Need-array-copy-out-r Inv-loop μ-loop
-array-copy-out-r c = omega arith
-
-train-faulty-requires : tie.Need-train-faulty-requires Inv-loop μ-loop
-train-faulty-requires c κs = search needs
-
 returns-2 : tie.Need-returns-2 Inv-loop μ-loop
 unfolding trainsFault
 returns-2 c =
     or-last _ _ _ (le-ltb _ _ (c .before .before .before .before .before .if1 .left)) (none-found _ _ _ (c .before .before .before .loop-test .taken) (train-answer _ _ _ _ _ _ _ _ _ (c .before .train-faulty .ensures) (c .if2 .taken)))
-
-loop-less : tie.Need-loop-less Inv-loop μ-loop
-loop-less c = omega arith
 
 loop-again : tie.Need-loop-again Inv-loop μ-loop
 loop-again c =
@@ -64,13 +43,13 @@ some-train-faulty-spec =
     Inv-loop
     μ-loop
     returns
-    loop-holds
-    cast-i
-    add-number
-    mul-r
-    array-copy-out-r
-    train-faulty-requires
+    (λ c. none-start _ _)
+    (λ c. omega arith)
+    (λ c. omega arith)
+    (λ c. omega arith)
+    (λ c. omega arith)
+    (λ c κs. search needs)
     returns-2
-    loop-less
+    (λ c. omega arith)
     loop-again
     returns-3)

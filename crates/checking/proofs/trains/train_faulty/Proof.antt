@@ -1,49 +1,11 @@
 -- Each answer is that of the definition, test by test.
-use Rattle.rules.proofs.Tests.{tests}
 use borrow.Author.Needs.{needs}
-use Rattle.checking.specs.Faults.{trainFaultIn}
-use Rattle.checking.proofs.Laws.{faulty-route, last-message}
+use Rattle.checking.proofs.Laws.{faulty-shape, faulty-route, before-route, beyond-route, tail-before-route, none-covered, many-covered, last-message}
 use Rattle.checking.proofs.trains.train_faulty.Statement.{statement}
 use Rattle.checking.proofs.trains.train_faulty.Tie as tie
 
-shape-faulty-requires : tie.Need-shape-faulty-requires
-shape-faulty-requires c κs = search needs
-
-returns : tie.Need-returns
-unfolding trainFaultIn
-returns c = search tests depth 20 fits 20000
-
-route-faulty-requires : tie.Need-route-faulty-requires
-route-faulty-requires c κs = search needs
-
-returns-2 : tie.Need-returns-2
-returns-2 c = faulty-route _ _ _ _ _ _ _ _ (c .before .route-faulty .ensures) (c .if2 .taken)
-
-returns-3 : tie.Need-returns-3
-unfolding trainFaultIn
-returns-3 c = search tests depth 20 fits 20000
-
-returns-4 : tie.Need-returns-4
-unfolding trainFaultIn
-returns-4 c = search tests depth 20 fits 20000
-
-returns-5 : tie.Need-returns-5
-unfolding trainFaultIn
-returns-5 c = search tests depth 20 fits 20000
-
-returns-6 : tie.Need-returns-6
-unfolding trainFaultIn
-returns-6 c = search tests depth 20 fits 20000
-
-returns-7 : tie.Need-returns-7
-unfolding trainFaultIn
-returns-7 c = search tests depth 20 fits 20000
-
-message-faulty-requires : tie.Need-message-faulty-requires
-message-faulty-requires c κs = search needs
-
-returns-8 : tie.Need-returns-8
-returns-8 c =
+message-left : tie.Need-returns-8
+message-left c =
     let few = c .before in
     let some = few .before .before in
     let tail = some .before .before in
@@ -57,14 +19,14 @@ pub train-faulty-spec : {M : Type 1} → statement M
 train-faulty-spec =
     tie.close
     (tie.spec
-    shape-faulty-requires
-    returns
-    route-faulty-requires
-    returns-2
-    returns-3
-    returns-4
-    returns-5
-    returns-6
-    returns-7
-    message-faulty-requires
-    returns-8)
+    (λ c κs. search needs)
+    (λ c. faulty-shape _ _ _ _ _ _ _ _ (c .before .shape-faulty .ensures) (c .if1 .taken))
+    (λ c κs. search needs)
+    (λ c. faulty-route _ _ _ _ _ _ _ _ (c .before .route-faulty .ensures) (c .if2 .taken))
+    (λ c. before-route _ _ _ _ _ _ _ (c .if3 .taken))
+    (λ c. beyond-route _ _ _ _ _ _ _ (c .if4 .taken))
+    (λ c. tail-before-route _ _ _ _ _ _ _ (c .if5 .taken))
+    (λ c. none-covered _ _ _ _ _ _ _ (c .if6 .taken))
+    (λ c. many-covered _ _ _ _ _ _ _ (c .if7 .taken))
+    (λ c κs. search needs)
+    message-left)

@@ -12,10 +12,10 @@ returns c =
     let ahead = nearEnd .before .before in
     let second = ahead .before in
     let secondPlace = second .before in
-    let tail = secondPlace .before .before in
+    let tail = secondPlace .before in
     let tailPlace = tail .before in
-    let next = tailPlace .before .before in
-    let front = next .before .before in
+    let next = tailPlace .before in
+    let front = next .before in
     around-of
     _
     _

@@ -5,9 +5,9 @@ use native.Mathlib.Omega.{arith}
 use borrow.Author.Needs.{needs}
 use Rattle.rules.proofs.Rows.{length-mapped}
 use Rattle.layout.specs.Ends.{column}
-use Rattle.layout.proofs.Laws.{Filled, fill-start, fill-turn, fill-end}
+use Rattle.layout.proofs.Column.{Filled, fill-start, fill-turn, fill-end}
 use Rattle.deciding.specs.Sight.{kindOf}
-use Rattle.deciding.proofs.Sights.{kind-none, kind-beyond, kind-at}
+use Rattle.deciding.proofs.Sights.{kind-none, kind-past, kind-at}
 use Rattle.deciding.proofs.sight.kinds.Statement.{statement}
 use Rattle.deciding.proofs.sight.kinds.Tie as tie
 
@@ -45,7 +45,7 @@ returns : tie.Need-returns Inv-loop μ-loop
 unfolding column
 returns c =
     let e : c .before .loop .i ≡ 96 = omega arith in
-    fill-end 256 _ 96 _ (rw e at (c .before .loop .inv .1)) (kind-beyond _ (search (needs, length-mapped)))
+    fill-end 256 _ 96 _ (rw e at (c .before .loop .inv .1)) (kind-past _ (search (needs, length-mapped)))
 
 pub kinds-spec : {M : Type 1} → statement M
 kinds-spec =

@@ -6,7 +6,8 @@ use native.Mathlib.Omega.{arith}
 use borrow.Author.Needs.{needs}
 use Rattle.rules.proofs.Rows.{length-mapped}
 use Rattle.layout.specs.Ends.{column, farEnd}
-use Rattle.layout.proofs.Laws.{Filled, fill-start, fill-turn, fill-end, far-none, far-beyond, far-a, far-b}
+use Rattle.layout.proofs.Column.{Filled, fill-start, fill-turn, fill-end}
+use Rattle.layout.proofs.Laws.{far-none, far-past, far-a, far-b}
 use Rattle.layout.proofs.network.far_boxes.Statement.{statement}
 use Rattle.layout.proofs.network.far_boxes.Tie as tie
 
@@ -27,7 +28,7 @@ returns : tie.Need-returns Inv-loop μ-loop
 unfolding column
 returns c =
     let e : c .before .loop .i ≡ 96 = omega arith in
-    fill-end 256 _ 96 _ (rw e at (c .before .loop .inv .1)) (far-beyond _ _ (search (needs, length-mapped)))
+    fill-end 256 _ 96 _ (rw e at (c .before .loop .inv .1)) (far-past _ _ (search (needs, length-mapped)))
 
 pub far-boxes-spec : {M : Type 1} → statement M
 far-boxes-spec =

@@ -8,10 +8,10 @@ use Rattle.layout.proofs.network.some_box_faulty.Statement.{statement}
 use Rattle.layout.proofs.network.some_box_faulty.Tie as tie
 
 abbrev Inv-loop : tie.InvT-loop
-Inv-loop m a b boxes number₀ number = NoneYet m (boxFaultIn boxes a b) number
+Inv-loop m a b plans number₀ number = NoneYet m (boxFaultIn plans a b) number
 
 abbrev μ-loop : tie.MeasureT-loop
-μ-loop m a b boxes number₀ number = m - number
+μ-loop m a b plans number₀ number = m - number
 
 returns : tie.Need-returns Inv-loop μ-loop
 returns c =

@@ -8,10 +8,10 @@ use Rattle.layout.proofs.network.some_plan_faulty.Statement.{statement}
 use Rattle.layout.proofs.network.some_plan_faulty.Tie as tie
 
 abbrev Inv-loop : tie.InvT-loop
-Inv-loop n m boxes last i₀ i = NoneYet m (planFaultIn n boxes) i
+Inv-loop n m plans last i₀ i = NoneYet m (planFaultIn n plans) i
 
 abbrev μ-loop : tie.MeasureT-loop
-μ-loop n m boxes last i₀ i = m - i
+μ-loop n m plans last i₀ i = m - i
 
 pub some-plan-faulty-spec : {M : Type 1} → statement M
 some-plan-faulty-spec =

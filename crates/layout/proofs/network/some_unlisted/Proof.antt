@@ -10,10 +10,10 @@ use Rattle.layout.proofs.network.some_unlisted.Statement.{statement}
 use Rattle.layout.proofs.network.some_unlisted.Tie as tie
 
 abbrev Inv-loop : tie.InvT-loop
-Inv-loop n a b boxes number₀ number = NoneYet n (unlistedIn boxes a b) number
+Inv-loop n a b plans number₀ number = NoneYet n (unlistedIn plans a b) number
 
 abbrev μ-loop : tie.MeasureT-loop
-μ-loop n a b boxes number₀ number = n - number
+μ-loop n a b plans number₀ number = n - number
 
 sub-at-a : tie.Need-sub-at-a Inv-loop μ-loop
 sub-at-a c = omega (arith, ends-within _ 96 _ _ (c .before .before .before .pre) _ (c .before .loop-test .taken))

@@ -4,7 +4,7 @@ use mathlib.Core.Path.{_≡_, sym}
 use native.Mathlib.Omega.{arith}
 use borrow.Author.Needs.{needs}
 use borrow.Author.Tests.{le-leb, lt-leb}
-use Rattle.printout.proofs.Laws.{route-before}
+use Rattle.rules.proofs.Rows.{route-before}
 use Rattle.printout.proofs.lines.tail.Statement.{statement}
 use Rattle.printout.proofs.lines.tail.Tie as tie
 

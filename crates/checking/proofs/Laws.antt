@@ -28,8 +28,8 @@ use Rattle.rules.proofs.Rows.{nth-at, any-same}
 use Rattle.rules.proofs.Accepted.{accepted}
 use Rattle.layout.specs.Ends.{column, routeFaultIn}
 use Rattle.layout.proofs.Routes.{route-in}
-use Rattle.deciding.specs.Sight.{kindOf, aroundIn}
-use Rattle.deciding.proofs.Around.{around-in}
+use Rattle.traincomputer.specs.Sight.{kindOf, aroundIn}
+use Rattle.traincomputer.proofs.Around.{around-in}
 use Rattle.checking.specs.Faults.{trainFaultIn, trainsFault, boxFaultWith, boxesFault}
 
 -- The train and the box at index i are those of number i + 1; z is what a function answered for it, and v what a branch found.

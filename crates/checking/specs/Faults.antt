@@ -13,7 +13,7 @@ use Rattle.rules.specs.Line.{noTrain, noBox}
 use Rattle.rules.specs.Steps.{mostCovered}
 use Rattle.rules.specs.Record.{messageFault}
 use Rattle.layout.specs.Ends.{routeFaultIn}
-use Rattle.deciding.specs.Sight.{aroundIn}
+use Rattle.traincomputer.specs.Sight.{aroundIn}
 
 -- As `trainFault` of `rules`, for train i with record r, on columns of the boxes at the A ends and at the B ends of segments and
 -- of the kinds of boxes.

@@ -1,17 +1,16 @@
 // Code 27 at the trains of a line.
-use deciding::requests;
-use deciding::sight;
 use layout::placing;
 use rules::Message;
 use rules::Request;
 use rules::Train;
+use traincomputer::sight;
 ghost use mathlib.Core.Path.{_≡_};
 ghost use mathlib.Core.Bool.{not, _||_};
 ghost use lib.Dec.{eqb};
 ghost use Rattle.rules.specs.Rows.{first};
 ghost use Rattle.rules.specs.Steps.{addressRows};
 ghost use Rattle.rules.specs.Record.{answerCode, messageFault};
-ghost use Rattle.deciding.specs.Sight.{aroundIn};
+ghost use Rattle.traincomputer.specs.Sight.{aroundIn};
 ghost use Rattle.checking.specs.Faults.{trainFaultIn, trainsFault};
 
 // A code that a box can give in answer to a lock request, other than 0.
@@ -53,7 +52,7 @@ fn address_faulty(
     ensures { λ x. ⌜ x ≡ not (eqb (first (addressRows (aroundIn (now (a .entry)) (now (b .entry)) (now (kinds .entry)) (now (routes .entry)) number r) r q)) 0) ⌝ }
 {
     let v = sight::around(number, r, routes, a, b, kinds);
-    requests::address_code(v, r, q) != 0
+    traincomputer::address_code(v, r, q) != 0
 }
 
 // Code 27 on a train's message.

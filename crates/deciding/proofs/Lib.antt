@@ -1,8 +1,3 @@
--- What stands around a train: looked up by the code, and on the columns of a table.
-pub mod Sights
-pub mod Around
--- What the rows of a request say.
-pub mod RequestRows
 -- What is decided, from the tests that the program makes.
 pub mod Decisions
 -- The i-th of a list at an index that is past the end where there is none.

@@ -14,7 +14,7 @@ use Rattle.rules.specs.declared.Around.{Around}
 use Rattle.rules.specs.declared.Outcome.{Outcome}
 use Rattle.rules.specs.Rows.{first}
 use Rattle.rules.specs.Line.{putTrain, putBox, messageBox}
-use Rattle.rules.specs.Steps.{withMessage, requestRows, enterRows, clearRows, boxRows, positionFor, granted, heard, entered, sensed, cleared, released}
+use Rattle.rules.specs.Steps.{withMessage, requestRows, enterRows, clearRows, boxRows, granted, heard, entered, sensed, cleared, released}
 use Rattle.deciding.specs.declared.Decided.{Decided}
 use Rattle.deciding.specs.declared.Decided.the-variants.{Refused, Changed}
 
@@ -35,18 +35,6 @@ unlessStopped c d = cond (eqb c 0) d (Refused c)
 -- Kinds 1 and 2.
 unfoldable pub sending : Around → Train → Request → SwitchBox → Decided
 sending v r q x = unlessStopped (first (requestRows v r q)) (Changed 0 (withMessage r (Sent q)) x)
-
--- A point whose lock is given to the train.
-abbrev pub lockGiven : Around → BoxPlan → SwitchBox → SwitchBox
-lockGiven v p x =
-    record {
-      sensor = x .sensor;
-      position = positionFor p (v .front) (v .next);
-      lock = v .number;
-      stem = x .stem;
-      left = x .left;
-      right = x .right;
-    }
 
 -- Kind 3.
 unfoldable pub answering : Around → Train → BoxPlan → SwitchBox → Request → Decided

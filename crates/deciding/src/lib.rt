@@ -1,16 +1,16 @@
-// What a step does to its train and to the one box that it concerns, by 01's rows of codes. The train and the box are passed by
-// value: the engine copies them out of the line, has the step decided here, and puts back what it changed.
+// What a step does to its train and to the one box that it concerns, by 01's rows of codes: `traincomputer` has what the train's
+// computer decides, `switchbox` what the box does. The train and the box are passed by value: the engine copies them out of the line,
+// has the step decided here, and puts back what it changed.
 mod moves;
-pub mod requests;
-pub mod sight;
+mod requests;
 
 use rules::BoxPlan;
 use rules::Request;
 use rules::SwitchBox;
 use rules::Train;
-use sight::around;
+use traincomputer::sight::around;
 ghost use mathlib.Core.Path.{_≡_};
-ghost use Rattle.deciding.specs.Sight.{aroundIn};
+ghost use Rattle.traincomputer.specs.Sight.{aroundIn};
 ghost use Rattle.deciding.specs.declared.Decided.the-variants.{Refused};
 ghost use Rattle.deciding.specs.Decided.{concernedBox, asking, plainly, decided};
 
@@ -34,7 +34,7 @@ pub fn concerned(
 {
     let message = r.message;
     match kind {
-        3 => requests::message_box(message),
+        3 => traincomputer::message_box(message),
         5 => around(number, r, routes, a, b, kinds).ahead,
         6 => around(number, r, routes, a, b, kinds).passed,
         _ => 0,

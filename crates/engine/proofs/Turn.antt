@@ -21,9 +21,9 @@ use Rattle.layout.specs.Ends.{column, farEnd}
 use Rattle.layout.proofs.Laws.{far-end}
 use Rattle.deciding.specs.declared.Decided.{Decided}
 use Rattle.deciding.specs.declared.Decided.the-variants.{Refused, Changed}
-use Rattle.deciding.specs.Sight.{kindOf, aroundIn}
+use Rattle.traincomputer.specs.Sight.{kindOf, aroundIn}
 use Rattle.deciding.specs.Decided.{concernedBox, decided}
-use Rattle.deciding.proofs.Around.{around-in}
+use Rattle.traincomputer.proofs.Around.{around-in}
 use Rattle.deciding.proofs.Steps.{leaving, putAt, step-decided}
 use Rattle.engine.specs.Loop.{Columns}
 use Rattle.engine.proofs.Running.{Running, stepAt, running-turn, running-room}

@@ -8,7 +8,7 @@ use Rattle.rules.specs.declared.Train.{Train}
 use Rattle.rules.specs.declared.Line.{Line}
 use Rattle.rules.specs.Track.{farBox}
 use Rattle.layout.specs.Ends.{column}
-use Rattle.deciding.specs.Sight.{kindOf}
+use Rattle.traincomputer.specs.Sight.{kindOf}
 
 -- The columns of a table t: the boxes at the A ends and at the B ends of segments, and the kinds of boxes, each by number.
 pub record Columns (t : Table) (a b kinds : List ℕ) : Type 0 where

@@ -1,10 +1,10 @@
 // The line engine: a single step on any line record, and a run of a table file and all its steps.
 pub mod steps;
 
-use deciding::sight;
 use layout::network;
 use rules::Line;
 use rules::Outcome;
+use traincomputer::sight;
 ghost use mathlib.Core.Path.{_≡_};
 ghost use Rattle.rules.specs.Record.{checkedStep};
 ghost use Rattle.rules.specs.Run.{run, answered, SafeRun};

@@ -1,9 +1,9 @@
 // Lines of the text, each of at most 18 bytes, and the lines of all steps, trains and boxes, one after the other.
 use crate::words;
-use deciding::sight;
 use rules::Line;
 use rules::SwitchBox;
 use rules::Train;
+use traincomputer::sight;
 ghost use mathlib.Core.Path.{_≡_};
 ghost use Prim.Native.Nat.{_+_, _-_, _*_, _≤_, _<_};
 ghost use mathlib.Core.Bool.{cond};

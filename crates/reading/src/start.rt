@@ -1,5 +1,4 @@
 // The line at its start.
-use rules::BoxPlan;
 use rules::Line;
 use rules::Message;
 use rules::Segment;
@@ -11,7 +10,7 @@ ghost use Prim.Native.Nat.{_-_};
 ghost use mathlib.Core.Bool.{cond};
 ghost use lib.Dec.{eqb};
 ghost use Rattle.rules.specs.Rows.{listOf, filled, outside};
-ghost use Rattle.rules.specs.Line.{noTrain, setHolder, startTrain, startLine};
+ghost use Rattle.rules.specs.Line.{noTrain, startTrain, startLine};
 ghost use Rattle.reading.specs.Start.{boxesAfter, Counted};
 
 // The trains: single on their first segments, nothing recorded, no message.
@@ -85,27 +84,6 @@ fn far(ends: Segment, direction: u8) -> u8
     if direction == 0 { ends.b } else { ends.a }
 }
 
-// A holder after segment s is reserved for a train at a place with segment `listed`.
-fn holder(listed: u8, before: u8, s: u8, train: u8) -> u8
-    ensures { λ r. ⌜ r ≡ cond (eqb s listed) train before ⌝ }
-{
-    if s == listed { train } else { before }
-}
-
-// The box with segment s reserved for a train.
-fn held(plan: BoxPlan, x: SwitchBox, s: u8, train: u8) -> SwitchBox
-    ensures { λ r. ⌜ r ≡ setHolder plan x s train ⌝ }
-{
-    SwitchBox {
-        sensor: x.sensor,
-        position: x.position,
-        lock: x.lock,
-        stem: holder(plan.stem, x.stem, s, train),
-        left: holder(plan.left, x.left, s, train),
-        right: holder(plan.right, x.right, s, train),
-    }
-}
-
 // The place of record x in an array of which `count` records are used, or 96 where there is none.
 fn place(x: u8, count: u8) -> usize
     ensures { λ r. ⌜ r ≡ cond (outside count x) 96 (x - 1) ⌝ }
@@ -141,7 +119,7 @@ fn boxes(t: Table) -> [SwitchBox; 96]
         i += 1;
         let b = place(ahead, m);
         if b < 96 {
-            let x = held(t.boxes[b], all[b], s, i);
+            let x = switchbox::set_holder(t.boxes[b], all[b], s, i);
             all[b] = x;
         }
     }

@@ -36,7 +36,7 @@ loop-again c =
     let a = c .before .before .before .before .before in
     let l = a .before .before .before .before .before in
     let s = l .before .before in
-    (omega arith, rw (c .held .ensures) (turn-here (s .args .t1) (l .loop .i) (l .loop .all) _ _ (s .pre .boxes) (l .loop .inv .1) (ahead-is a) (c .before .before .before .before .place2 .ensures) (c .before .before .before .if2 .taken)))
+    (omega arith, rw (c .set-holder .ensures) (turn-here (s .args .t1) (l .loop .i) (l .loop .all) _ _ (s .pre .boxes) (l .loop .inv .1) (ahead-is a) (c .before .before .before .before .place2 .ensures) (c .before .before .before .if2 .taken)))
 
 loop-again-2 : tie.Need-loop-again-2 Inv-loop μ-loop
 loop-again-2 c =

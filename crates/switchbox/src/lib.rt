@@ -1,0 +1,174 @@
+// What a switch box decides and does, on its plan and its record: its answer to a request, what its yes does, and what it frees
+// after a train.
+use rules::Around;
+use rules::BoxPlan;
+use rules::Request;
+use rules::SwitchBox;
+ghost use mathlib.Core.Path.{_≡_};
+ghost use mathlib.Core.Bool.{cond, _&&_};
+ghost use lib.Dec.{eqb};
+ghost use Rattle.rules.specs.Rows.{first};
+ghost use Rattle.rules.specs.Track.{joins};
+ghost use Rattle.rules.specs.declared.Request.the-variants.{Reserve, Lock};
+ghost use Rattle.rules.specs.Line.{holderOf, setHolder};
+ghost use Rattle.rules.specs.Steps.{another, boxRows, positionFor, granted, released};
+ghost use Rattle.switchbox.specs.Lock.{lockGiven};
+
+// The train that segment s is reserved for at a box, 0 where there is none.
+fn holder_of(p: BoxPlan, x: SwitchBox, s: u8) -> u8
+    ensures { λ h. ⌜ h ≡ holderOf p x s ⌝ }
+{
+    if s == p.stem {
+        return x.stem;
+    }
+    if s == p.left {
+        return x.left;
+    }
+    if s == p.right {
+        return x.right;
+    }
+    0
+}
+
+// A holder at a place with segment `listed`, after segment s is given to a train.
+fn holder(listed: u8, before: u8, s: u8, train: u8) -> u8
+    ensures { λ h. ⌜ h ≡ cond (eqb s listed) train before ⌝ }
+{
+    if s == listed { train } else { before }
+}
+
+// The box with segment s given to a train.
+pub fn set_holder(p: BoxPlan, x: SwitchBox, s: u8, train: u8) -> SwitchBox
+    ensures { λ y. ⌜ y ≡ setHolder p x s train ⌝ }
+{
+    SwitchBox {
+        sensor: x.sensor,
+        position: x.position,
+        lock: x.lock,
+        stem: holder(p.stem, x.stem, s, train),
+        left: holder(p.left, x.left, s, train),
+        right: holder(p.right, x.right, s, train),
+    }
+}
+
+// Somebody else than train i.
+fn another(i: u8, holder: u8) -> bool
+    ensures { λ x. ⌜ x ≡ another i holder ⌝ }
+{
+    if holder == 0 {
+        return false;
+    }
+    holder != i
+}
+
+// Code 22 of a reservation.
+fn reserve_code(v: Around, p: BoxPlan, x: SwitchBox, b: u8) -> u8
+    ensures { λ c. ⌜ c ≡ first (boxRows v p x (Reserve b)) ⌝ }
+{
+    if another(v.number, holder_of(p, x, v.next)) {
+        return 22;
+    }
+    0
+}
+
+// Front and next are reserved for the train at the box.
+fn holds_both(v: Around, p: BoxPlan, x: SwitchBox) -> bool
+    ensures { λ z. ⌜ z ≡ (eqb (holderOf p x (v .front)) (v .number) && eqb (holderOf p x (v .next)) (v .number)) ⌝ }
+{
+    if holder_of(p, x, v.front) != v.number {
+        return false;
+    }
+    holder_of(p, x, v.next) == v.number
+}
+
+// Codes 23 to 25 of a lock.
+fn lock_code(v: Around, p: BoxPlan, x: SwitchBox, b: u8) -> u8
+    ensures { λ c. ⌜ c ≡ first (boxRows v p x (Lock b)) ⌝ }
+{
+    if x.sensor {
+        return 23;
+    }
+    if another(v.number, x.lock) {
+        return 24;
+    }
+    if !holds_both(v, p, x) {
+        return 25;
+    }
+    0
+}
+
+// The box's code for a request.
+pub fn box_code(v: Around, p: BoxPlan, x: SwitchBox, q: Request) -> u8
+    ensures { λ c. ⌜ c ≡ first (boxRows v p x q) ⌝ }
+{
+    match q {
+        Request::Reserve(b) => reserve_code(v, p, x, b),
+        Request::Lock(b) => lock_code(v, p, x, b),
+    }
+}
+
+// Segments s and z are y and w, in this order.
+fn pair_is(s: u8, z: u8, y: u8, w: u8) -> bool
+    ensures { λ x. ⌜ x ≡ (eqb s y && eqb z w) ⌝ }
+{
+    if s != y {
+        return false;
+    }
+    z == w
+}
+
+// Position 1 of a point joins segments s and z: one is the stem, the other the left branch.
+fn joins_left(p: BoxPlan, s: u8, z: u8) -> bool
+    ensures { λ x. ⌜ x ≡ joins p 1 s z ⌝ }
+{
+    if pair_is(s, z, p.stem, p.left) {
+        return true;
+    }
+    pair_is(s, z, p.left, p.stem)
+}
+
+// The position of a point that joins two segments, one of which is its stem.
+fn position_for(p: BoxPlan, s: u8, z: u8) -> u8
+    ensures { λ x. ⌜ x ≡ positionFor p s z ⌝ }
+{
+    if joins_left(p, s, z) { 1 } else { 2 }
+}
+
+// The point joins front to next, and its lock is the train's.
+fn locked(v: Around, p: BoxPlan, x: SwitchBox) -> SwitchBox
+    ensures { λ y. ⌜ y ≡ lockGiven v p x ⌝ }
+{
+    SwitchBox {
+        sensor: x.sensor,
+        position: position_for(p, v.front, v.next),
+        lock: v.number,
+        stem: x.stem,
+        left: x.left,
+        right: x.right,
+    }
+}
+
+// The box after its yes.
+pub fn granted(v: Around, p: BoxPlan, x: SwitchBox, q: Request) -> SwitchBox
+    ensures { λ y. ⌜ y ≡ granted v p x q ⌝ }
+{
+    match q {
+        Request::Reserve(_) => set_holder(p, x, v.next, v.number),
+        Request::Lock(_) => locked(v, p, x),
+    }
+}
+
+// The box that a train has passed: sensor passive, lock free, the reservations of both segments free.
+pub fn released(p: BoxPlan, x: SwitchBox, s: u8, z: u8) -> SwitchBox
+    ensures { λ y. ⌜ y ≡ released p x s z ⌝ }
+{
+    let free = SwitchBox {
+        sensor: false,
+        position: x.position,
+        lock: 0,
+        stem: x.stem,
+        left: x.left,
+        right: x.right,
+    };
+    set_holder(p, set_holder(p, free, s, 0), z, 0)
+}

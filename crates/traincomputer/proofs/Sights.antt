@@ -1,0 +1,61 @@
+-- Laws of what stands around a train: the kinds of boxes, and the trains that have no route.
+use Prim.Native.Nat.{ℕ, zero, suc, _+_, _-_, _*_, _<_}
+use mathlib.Core.Path.{_≡_, refl, sym, ap}
+use mathlib.Core.List.{List}
+use native.Mathlib.Omega.{arith}
+use lib.Dec.{eqb, ltb}
+use lib.ListN.{length, getD, List·getD-eq-default}
+use Rattle.rules.specs.declared.BoxPlan.{BoxPlan}
+use Rattle.rules.specs.declared.Train.{Train}
+use Rattle.rules.specs.declared.Around.{Around}
+use Rattle.rules.specs.Rows.{nth}
+use Rattle.rules.specs.Track.{noBoxPlan, routeAt}
+use Rattle.rules.proofs.Tests.{cond-same}
+use Rattle.rules.proofs.Rows.{nth-at, nth-past}
+use Rattle.traincomputer.specs.Sight.{kindOf, farIn, nearIn, aroundIn}
+
+-- There is no box 0 and none past the array; box i + 1 stands at index i.
+module _ (plans : List BoxPlan) where
+  pub kind-none : kindOf plans 0 ≡ 0
+  unfolding kindOf nth
+  kind-none = refl
+
+  pub kind-past : length plans ≡ 96 → (x : ℕ) → 96 < x → kindOf plans x ≡ 0
+  unfolding kindOf
+  kind-past e x h = ap (λ (p : BoxPlan). p .kind) (nth-past plans x noBoxPlan (omega arith))
+
+  pub kind-at : (i : ℕ) → getD plans i noBoxPlan .kind ≡ kindOf plans (i + 1)
+  unfolding kindOf
+  kind-at i = ap (λ (p : BoxPlan). p .kind) (sym (nth-at plans i noBoxPlan))
+
+-- A line has the routes of trains 1 to 16.
+pub train-none : (routes : List ℕ) (i p : ℕ) → i ≡ 0 → 0 ≡ routeAt routes i p
+unfolding routeAt
+train-none routes i p e = rw e
+
+pub train-past : (routes : List ℕ) (i p : ℕ) → length routes ≡ 1024 → 16 < i → 0 ≡ routeAt routes i p
+unfolding routeAt
+train-past routes zero p e h = refl
+train-past routes (suc i) zero e h = refl
+train-past routes (suc i) (suc p) e h =
+    let none : getD routes (64 * i + p) 0 ≡ 0 = List·getD-eq-default routes 0 (omega arith) in
+    rw none (sym (cond-same (ltb p 64) 0))
+
+-- What stands around a train, from its parts.
+pub around-of : (a b kinds routes : List ℕ) (i : ℕ) (r : Train) (v : Around) (t u : ℕ)
+    → v .number ≡ i
+    → v .front ≡ routeAt routes i (r .place)
+    → v .next ≡ routeAt routes i (r .place + 1)
+    → t ≡ r .place + 1 - r .covered
+    → v .tail ≡ routeAt routes i t
+    → u ≡ r .place + 2 - r .covered
+    → v .second ≡ routeAt routes i u
+    → v .ahead ≡ farIn a b (r .direction) (v .front)
+    → v .point ≡ eqb (getD kinds (v .ahead) 0) 2
+    → v .nearEnd ≡ nearIn a b (r .direction) (v .next)
+    → v .farEnd ≡ farIn a b (r .direction) (v .next)
+    → v .passed ≡ farIn a b (r .direction) (v .tail)
+    → v ≡ aroundIn a b kinds routes i r
+unfolding aroundIn
+around-of a b kinds routes i r v t u number front next e tail f second ahead point nearEnd farEnd passed =
+    rw (← front, ← next, ← e, ← tail, ← f, ← second, ← ahead, ← point, ← nearEnd, ← farEnd, ← passed, ← number)

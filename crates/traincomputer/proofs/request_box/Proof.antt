@@ -1,0 +1,16 @@
+-- Each arm by its variant.
+use Rattle.rules.specs.Line.{requestBox}
+use borrow.Author.Needs.{needs}
+use Rattle.traincomputer.proofs.request_box.Statement.{statement}
+use Rattle.traincomputer.proofs.request_box.Tie as tie
+
+returns : tie.Need-returns
+unfolding requestBox
+returns c = rw (c .before .q .given .1)
+
+returns-2 : tie.Need-returns-2
+unfolding requestBox
+returns-2 c = rw (c .before .q2 .given .1)
+
+pub request-box-spec : {M : Type 1} → statement M
+request-box-spec = tie.close (tie.spec (λ c. search needs) (λ c. search needs) returns returns-2)

@@ -1,16 +1,49 @@
--- Rows of codes one after the other, and what the head's rows leave where none applies.
-use Prim.Native.Nat.{ℕ}
+-- The codes of a table's head and network by the tests that lead to them, rows of codes one after the other, and what the
+-- head's rows leave where none applies.
+use Prim.Native.Nat.{ℕ, _≤_, _<_}
 use mathlib.Core.Path.{_≡_, refl, sym, _∙_}
-use mathlib.Core.List.{List, _++_}
-use Rattle.rules.specs.Rows.{first}
-use Rattle.rules.specs.Network.{headRows}
+use mathlib.Core.Bool.{true, false}
+use mathlib.Core.List.{List, [], _∷_, _++_}
+use Rattle.rules.specs.Rows.{_if_, first, anyOf, outside}
+use Rattle.rules.specs.Network.{headRows, limitsFault, knownVersion}
 use Rattle.rules.specs.declared.BoxPlan.{BoxPlan}
 use Rattle.rules.specs.declared.TrainPlan.{TrainPlan}
-use Rattle.rules.proofs.Tests.{first-before, first-skip, first-zero-iff}
+use Rattle.rules.proofs.Tests.{tests, first-before, first-none, first-hit, first-skip, first-zero-iff, or-left, or-right, or-false}
 use Rattle.rules.proofs.Accepted.{Limits, limits-iff}
-use Rattle.layout.specs.Parts.{networkRowsIn, placingRowsIn, partsCode}
+use Rattle.loops.specs.Track.{loopIn}
+use Rattle.layout.specs.Parts.{endsFaultIn, planFaultIn, boxFaultIn, unlistedIn, networkRowsIn, placingRowsIn, partsCode}
 
 module _ (version n m k : ℕ) where
+  -- Codes 3 and 4, each by the tests before it, and none.
+  pub head-3 : (version ≡ 1 → ⊥) → 3 ≡ first (headRows version n m k)
+  unfolding headRows knownVersion
+  head-3 h = search tests
+
+  module _ (known : version ≡ 1) where
+    limits-4 : limitsFault n m k ≡ true → 4 ≡ first (headRows version n m k)
+    unfolding headRows knownVersion
+    limits-4 h = search tests
+
+    pub segments-4 : outside 96 n ≡ true → 4 ≡ first (headRows version n m k)
+    unfolding limitsFault
+    segments-4 h = limits-4 (search tests)
+
+    pub few-boxes-4 : m < 2 → 4 ≡ first (headRows version n m k)
+    unfolding limitsFault
+    few-boxes-4 h = limits-4 (search tests)
+
+    pub many-boxes-4 : 96 < m → 4 ≡ first (headRows version n m k)
+    unfolding limitsFault
+    many-boxes-4 h = limits-4 (search tests)
+
+    pub trains-4 : 16 < k → 4 ≡ first (headRows version n m k)
+    unfolding limitsFault
+    trains-4 h = limits-4 (search tests)
+
+    pub head-0 : outside 96 n ≡ false → 2 ≤ m → m ≤ 96 → k ≤ 16 → 0 ≡ first (headRows version n m k)
+    unfolding headRows knownVersion limitsFault first
+    head-0 segments low high trains = search tests
+
   -- A head that is accepted keeps its limits.
   pub head-limits : (h : ℕ) → h ≡ first (headRows version n m k) → h ≡ 0 → Limits n m k
   unfolding headRows
@@ -41,3 +74,37 @@ module _ (version n m k : ℕ) where
 
     pub placing-counts : (h c r : ℕ) → h ≡ first (headRows version n m k) → h ≡ 0 → c ≡ first (networkRowsIn n m plans a b) → c ≡ 0 → r ≡ first (placingRowsIn n k trains routes a b) → r ≡ partsCode version n m k plans trains routes a b
     placing-counts h c r e z f y g = g ∙ sym (network-clear (sym f ∙ y)) ∙ sym (head-clear (sym e ∙ z))
+
+-- Codes 6 to 9, each by the tests before it, and none.
+module _ (n m : ℕ) (plans : List BoxPlan) (a b : List ℕ) where
+  abbrev Code : ℕ → Type 0
+  Code c = c ≡ first (networkRowsIn n m plans a b)
+
+  pub network-6 : anyOf n (endsFaultIn m a b) ≡ true → Code 6
+  unfolding networkRowsIn
+  network-6 e = first-hit _ _ _ e refl
+
+  module _ (ends : anyOf n (endsFaultIn m a b) ≡ false) where
+    pub network-7 : anyOf m (planFaultIn n plans) ≡ true → Code 7
+    unfolding networkRowsIn
+    network-7 e = first-skip _ _ _ ends (first-hit _ _ _ e refl)
+
+    module _ (kinds : anyOf m (planFaultIn n plans) ≡ false) where
+      pub boxes-8 : anyOf m (boxFaultIn plans a b) ≡ true → Code 8
+      unfolding networkRowsIn
+      boxes-8 e = first-skip _ _ _ ends (first-skip _ _ _ kinds (first-hit _ _ _ (or-left _ _ e) refl))
+
+      pub segments-8 : anyOf n (unlistedIn plans a b) ≡ true → Code 8
+      unfolding networkRowsIn
+      segments-8 e = first-skip _ _ _ ends (first-skip _ _ _ kinds (first-hit _ _ _ (or-right (anyOf m (boxFaultIn plans a b)) _ e) refl))
+
+      module _ (boxes : anyOf m (boxFaultIn plans a b) ≡ false) (segments : anyOf n (unlistedIn plans a b) ≡ false) where
+        past-8 : (c : ℕ) → c ≡ first (9 if loopIn n a b ∷ []) → Code c
+        unfolding networkRowsIn
+        past-8 c e = first-skip _ _ _ ends (first-skip _ _ _ kinds (first-skip _ _ _ (or-false _ _ boxes segments) e))
+
+        pub network-9 : loopIn n a b ≡ true → Code 9
+        network-9 e = past-8 9 (first-hit _ _ _ e refl)
+
+        pub network-0 : loopIn n a b ≡ false → Code 0
+        network-0 e = past-8 0 (first-skip _ _ _ e (sym first-none))

@@ -1,37 +1,45 @@
--- Each answer is that of the definition, test by test.
-use Rattle.rules.proofs.Tests.{tests}
-use Rattle.rules.specs.Network.{headRows, limitsFault, knownVersion}
-use Rattle.rules.specs.Rows.{first}
+-- The codes in their order, by the tests that led to each return.
+use mathlib.Core.Path.{_≡_}
 use borrow.Author.Needs.{needs}
+use Rattle.rules.specs.Rows.{outside}
+use Rattle.rules.proofs.Tests.{answered}
+use Rattle.layout.proofs.Codes.{head-3, segments-4, few-boxes-4, many-boxes-4, trains-4, head-0}
 use Rattle.layout.proofs.head_code.Statement.{statement}
 use Rattle.layout.proofs.head_code.Tie as tie
 
 returns : tie.Need-returns
-unfolding headRows limitsFault knownVersion first
-returns c = search tests depth 12
+returns c = head-3 _ _ _ _ (c .if1 .taken)
 
 outside-requires : tie.Need-outside-requires
 outside-requires c κs = search needs
 
+-- What was answered for the number of segments.
+segments-answer : (c : tie.After-outside) → c .outside .result ≡ outside 96 (c .before .before .args .n)
+segments-answer c = c .outside .ensures
+
 returns-2 : tie.Need-returns-2
-unfolding headRows limitsFault knownVersion first
-returns-2 c = search tests depth 12
+returns-2 c =
+    segments-4 _ _ _ _ (c .before .before .if1 .left) (answered _ _ _ (segments-answer (c .before)) (c .if2 .taken))
 
 returns-3 : tie.Need-returns-3
-unfolding headRows limitsFault knownVersion first
-returns-3 c = search tests depth 12
+returns-3 c = few-boxes-4 _ _ _ _ (c .before .before .before .if1 .left) (c .if3 .taken)
 
 returns-4 : tie.Need-returns-4
-unfolding headRows limitsFault knownVersion first
-returns-4 c = search tests depth 12
+returns-4 c = many-boxes-4 _ _ _ _ (c .before .before .before .before .if1 .left) (c .if4 .taken)
 
 returns-5 : tie.Need-returns-5
-unfolding headRows limitsFault knownVersion first
-returns-5 c = search tests depth 12
+returns-5 c = trains-4 _ _ _ _ (c .before .before .before .before .before .if1 .left) (c .if5 .taken)
 
 returns-6 : tie.Need-returns-6
-unfolding headRows limitsFault knownVersion first
-returns-6 c = search tests depth 12
+returns-6 c =
+    let low = c .before .before in
+    let counted = low .before in
+    head-0 _ _ _ _
+    (counted .before .before .if1 .left)
+    (answered _ _ _ (segments-answer (counted .before)) (counted .if2 .left))
+    (low .if3 .left)
+    (c .before .if4 .left)
+    (c .if5 .left)
 
 pub head-code-spec : {M : Type 1} → statement M
 head-code-spec =

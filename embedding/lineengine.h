@@ -17,7 +17,7 @@
  * What the proofs assume of the caller, in the terms of C:
  *
  *   - A pointer points to as many bytes as the length beside it says, which is at most PTRDIFF_MAX; with length 0 it is not
- *     looked at, but is not NULL.
+ *     looked at, but is not NULL. `text_length` points to a size_t.
  *   - A buffer that is written (no `const`) overlaps nothing else that is passed in the same call. What is only read may overlap
  *     what is only read.
  *   - While a call runs, nothing else writes what was passed, and nothing else reads what the call writes.
@@ -38,7 +38,8 @@ extern "C" {
 #define LINEENGINE_ACCEPTED 0
 #define LINEENGINE_BUFFER_TOO_SHORT 26
 
-/* No table with more bytes is accepted: 96 segments and boxes, 16 trains with routes of 64. */
+/* No table with more bytes is accepted: 96 segments and boxes, 16 trains with routes of 64. Whoever loads a table into a buffer loads up
+ * to one byte more than this, so that a longer file is refused and not cut. */
 #define LINEENGINE_MOST_TABLE 1736
 
 /* The most steps that `lineengine_print` takes; `lineengine_run` takes any number. */

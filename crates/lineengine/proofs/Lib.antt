@@ -1,2 +1,2 @@
--- What the reader says of a file, and what the writer makes of its table.
+-- Laws that the proofs of this crate's functions cite.
 pub mod Tables

@@ -1,2 +1,3 @@
+-- What the library's contracts name beside the definitions of `rules`.
 pub mod WriteBack
 pub mod Safe

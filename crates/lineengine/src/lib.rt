@@ -14,7 +14,7 @@ ghost use Rattle.lineengine.specs.Safe.{SafelyAnswered};
 pub extern "C" fn lineengine_check(table: &[u8]) -> u8
     ensures { λ r. ⌜ r ≡ fileCode (now (table .entry)) ⌝ }
 {
-    let checked = reading::read(table);
+    let checked = tablefile::read_table(table);
     checked.code
 }
 
@@ -58,11 +58,11 @@ pub extern "C" fn lineengine_write_back(table: &[u8], buffer: &mut [u8]) -> u8
     ensures { λ r. ⌜ r ≡ writeBackCode (now (table .entry)) (now (buffer .entry)) ⌝ }
     ensures { λ r. ⌜ now (buffer .exit) ≡ writtenBack (now (table .entry)) (now (buffer .entry)) ⌝ }
 {
-    let outcome = reading::read(table);
-    if outcome.code != 0 {
-        return outcome.code;
+    let file = tablefile::read_table(table);
+    let code = file.code;
+    if code != 0 {
+        return code;
     }
-    let line = outcome.line;
-    let plan = line.table;
-    writing::write(plan, buffer)
+    let record = file.table;
+    writing::write(record, buffer)
 }

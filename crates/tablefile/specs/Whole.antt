@@ -1,4 +1,4 @@
--- A file that codes 1 to 5 let through, and those codes.
+-- A whole file, its arrays, codes 1 to 5, and what is decided of a file.
 use Prim.Native.Nat.{ℕ, _≤_}
 use mathlib.Core.Bool.{cond}
 use mathlib.Core.List.{List}

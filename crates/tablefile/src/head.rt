@@ -53,7 +53,7 @@ pub(crate) fn early_code(bytes: &[u8]) -> u8
     0
 }
 
-// The table record of a file that codes 1 to 5 let through.
+// The table record of a whole file.
 pub(crate) fn table(bytes: &[u8]) -> Table
     requires { ⌜ Whole (now bytes) ⌝ }
     ensures { λ r. ⌜ r ≡ decode (now (bytes .entry)) ⌝ }

@@ -1,6 +1,6 @@
-// The table reader (01, "Table file"): the lent bytes of a file together with the place of its next record. Each function over it
-// takes it apart and leaves the work to a function of `records` on the slice and the place. The last three have plain parameters:
-// whoever calls them knows nothing of the reader.
+// The table reader (01, "Table file"): the lent bytes of a file together with the place of its next record. It is made behind the head;
+// the functions over it take it apart and leave the work to functions of `records` on the slice and the place. The last three have
+// plain parameters: whoever calls them knows nothing of the reader.
 use crate::records;
 use rules::BoxPlan;
 use rules::Segment;
@@ -99,7 +99,7 @@ fn behind_trains<'a>(bytes: &'a [u8], n: u8, m: u8, count: u8) -> TableReader<'a
     past_trains(past(past(made(bytes), n, 2), m, 5), count)
 }
 
-// The table record of a file that codes 1 to 5 let through, with the numbers of its head.
+// The table record of a whole file, with the numbers of its head.
 pub(crate) fn table(bytes: &[u8], version: u16, n: u8, m: u8, k: u8) -> Table
     requires { ⌜ Headed (now bytes) version n m k ⌝ }
     ensures { λ t. ⌜ t ≡ decode (now (bytes .entry)) ⌝ }

@@ -26,6 +26,7 @@ pub fn kinds(plans: [BoxPlan; 96]) -> [u8; 256]
 pub fn segment_at(routes: &[u8; 1024], number: u8, p: usize) -> u8
     ensures { λ s. ⌜ s ≡ routeAt (now (routes .entry)) number p ⌝ }
 {
+    // As a slice, whose length the proof knows.
     let places: &[u8] = routes;
     if number == 0 {
         return 0;

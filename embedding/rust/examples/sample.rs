@@ -45,7 +45,7 @@ fn written_back(table: &[u8]) {
 fn refusals(table: &[u8], steps: &[u8]) {
     let count = steps_in(steps.len());
     let (mut answers, mut back) = (vec![99; count], vec![0; table.len()]);
-    println!("answers too short: {}", code(run(table, steps, &mut answers[..count - 1])));
+    println!("answers too short: {}", code(run(table, steps, &mut answers[..count.saturating_sub(1)])));
     println!("buffer too short: {}", code(write_back(table, &mut back[..table.len() - 1])));
     let mut changed = table.to_vec();
     changed[table.len() - 1] ^= 4;

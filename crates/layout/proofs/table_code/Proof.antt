@@ -1,3 +1,4 @@
+-- The columns are the table's own.
 use Rattle.rules.proofs.Rows.{length-mapped}
 use Rattle.layout.proofs.Parts.{parts-answer}
 use borrow.Author.Needs.{needs}
@@ -14,7 +15,9 @@ parts-code-requires : tie.Need-parts-code-requires
 parts-code-requires c κs = search needs
 
 returns : tie.Need-returns
-returns c = search (needs, length-mapped, parts-answer)
+returns c =
+    let b = c .before .before .before .before .before in
+    parts-answer _ (search (needs, length-mapped)) _ _ _ (b .before .far-boxes .ensures) (b .far-boxes2 .ensures) (c .parts-code .ensures)
 
 pub table-code-spec : {M : Type 1} → statement M
 table-code-spec =

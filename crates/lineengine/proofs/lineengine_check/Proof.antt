@@ -1,13 +1,11 @@
--- The code that the reader gives is the file's.
-use mathlib.Core.Path.{_∙_, ap}
+-- The code that is decided of a file.
 use borrow.Author.Needs.{needs}
-use Rattle.rules.specs.declared.Outcome.{Outcome}
-use Rattle.lineengine.proofs.Tables.{read-code}
+use Rattle.tablefile.proofs.Files.{file-code}
 use Rattle.lineengine.proofs.lineengine_check.Statement.{statement}
 use Rattle.lineengine.proofs.lineengine_check.Tie as tie
 
 returns : tie.Need-returns
-returns c = ap (λ (o : Outcome). o .code) (c .read .ensures) ∙ read-code _
+returns c = file-code _ _ (c .read-table .ensures)
 
 pub lineengine-check-spec : {M : Type 1} → statement M
 lineengine-check-spec = tie.close (tie.spec (λ c κs. search needs) returns)

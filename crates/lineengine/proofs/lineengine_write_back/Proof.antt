@@ -5,15 +5,13 @@ use Rattle.lineengine.proofs.lineengine_write_back.Statement.{statement
 use Rattle.lineengine.proofs.lineengine_write_back.Tie as tie
 
 returns : tie.Need-returns
-returns c =
-    let read = c .before .before in
-    refused-back _ _ _ (read .read .ensures) (c .if1 .taken)
+returns c = refused-back _ _ _ (c .before .read-table .ensures) (c .if1 .taken)
 
 returns-2 : tie.Need-returns-2
 returns-2 c =
     let wrote = c .before .before in
-    let test = wrote .before .before .before .before in
-    accepted-back _ _ _ (test .before .before .read .ensures) (test .if1 .left) _ _ (wrote .write .ensures .0) (wrote .write .ensures .1)
+    let test = wrote .before .before .before in
+    accepted-back _ _ _ (test .before .read-table .ensures) (test .if1 .left) _ _ (wrote .write .ensures .0) (wrote .write .ensures .1)
 
 pub lineengine-write-back-spec : {M : Type 1} → statement M
 lineengine-write-back-spec =

@@ -4,6 +4,7 @@
 pub mod argument;
 pub mod atomic;
 pub mod compare;
+pub mod counts;
 pub mod demand;
 pub mod fault;
 pub mod generate;

@@ -6,13 +6,12 @@
 //! Arguments: the program, seed, number of tables.
 
 use reference::argument::argument;
+use reference::counts::print_codes;
 use reference::generate::damage::damaged_file;
+use reference::generate::outside::{driven, table_with_steps};
 use reference::generate::prng::Prng;
-use reference::generate::steps::{drive, step_bytes};
-use reference::generate::tables::{accepted_table, largest_table};
-use reference::line::start_line;
+use reference::generate::tables::largest_table;
 use reference::printout::{printout, MAX_STEPS};
-use reference::table::Table;
 use reference::table_read::read_table;
 use reference::table_write::file_bytes;
 use std::fs::{create_dir, create_dir_all, remove_dir_all, remove_file, write, File};
@@ -81,17 +80,7 @@ impl Comparison {
     /// A generated table with a list of steps of any length, and a file damaged from it.
     fn table(&mut self, seed: u64, case: u64) -> Result<()> {
         let mut rng = Prng::for_case(seed, case);
-        let table = match case % 10 {
-            9 => largest_table(&mut rng),
-            _ => accepted_table(&mut rng),
-        };
-        let count = match case % 100 {
-            0..=29 => rng.below(6),
-            99 => rng.between(2_000, 20_000),
-            _ => rng.between(6, 600),
-        };
-        let mut steps = driven(&mut rng, &table, count);
-        steps.truncate(steps.len().saturating_sub(rng.pick(&[0, 0, 1, 2])));
+        let (table, mut steps) = table_with_steps(&mut rng, case);
         self.run(&Net::Bytes(file_bytes(&table)), &steps)?;
         let damaged = damaged_file(&mut rng, &table, (case % 21) as u8);
         steps.truncate(rng.below(40));
@@ -212,14 +201,7 @@ impl Comparison {
         let steps: usize = self.step_codes.iter().sum();
         println!("seed {seed}: {tables} tables, {} runs, {} of them with an accepted file", self.runs, self.accepted);
         println!("{steps} steps taken, {} lists cut at {MAX_STEPS}", self.lists_cut);
-        println!("code  files");
-        for (code, count) in self.file_codes.iter().enumerate() {
-            println!("{code:4} {count:8}");
-        }
-        println!("code  steps");
-        for code in std::iter::once(0).chain(13..=25) {
-            println!("{code:4} {:8}", self.step_codes[code]);
-        }
+        print_codes(&self.file_codes, &self.step_codes);
         println!("{} differences", self.differences);
     }
 }
@@ -241,11 +223,6 @@ fn in_pieces(mut child: Child, steps: &[u8]) -> Result<std::process::Output> {
     let output = child.wait_with_output();
     writer.join().expect("the writer ends");
     output
-}
-
-/// The bytes of steps chosen from the line as it stands.
-fn driven(rng: &mut Prng, table: &Table, count: usize) -> Vec<u8> {
-    step_bytes(&drive(rng, &mut start_line(table), count))
 }
 
 /// A file of 4,792 bytes, the longest that code 5 lets through: 96 segments and boxes, 16 trains with

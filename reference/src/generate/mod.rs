@@ -6,6 +6,7 @@ pub mod damage;
 pub mod draft;
 pub mod example;
 pub mod made_up;
+pub mod outside;
 pub mod prng;
 pub mod small_tables;
 pub mod smallest;

@@ -1,5 +1,7 @@
 //! What was compared, and how often it differed.
 
+use reference::counts::print_codes;
+
 /// How many differences are shown.
 const SHOWN: usize = 5;
 
@@ -50,14 +52,7 @@ impl Counts {
             let name = format!("{function:?}");
             println!("{name:9} {:7} {:12}", self.calls[function as usize], self.too_short[function as usize]);
         }
-        println!("code  files");
-        for (code, count) in self.file_codes.iter().enumerate() {
-            println!("{code:4} {count:8}");
-        }
-        println!("code  steps");
-        for code in std::iter::once(0).chain(13..=25) {
-            println!("{code:4} {:8}", self.step_codes[code]);
-        }
+        print_codes(&self.file_codes, &self.step_codes);
         println!("{} differences", self.differences);
     }
 }

@@ -11,12 +11,10 @@ use calls::Case;
 use counts::Counts;
 use reference::argument::argument;
 use reference::generate::damage::damaged_file;
+use reference::generate::outside::{driven, table_with_steps};
 use reference::generate::prng::Prng;
-use reference::generate::steps::{drive, step_bytes};
-use reference::generate::tables::{accepted_table, largest_table};
-use reference::line::start_line;
+use reference::generate::tables::largest_table;
 use reference::printout::MAX_STEPS;
-use reference::table::Table;
 use reference::table_read::read_table;
 use reference::table_write::file_bytes;
 
@@ -43,17 +41,7 @@ fn main() {
 /// A generated table with a list of steps, the file as its own steps, and files damaged from it.
 fn table(seed: u64, case: u64, counts: &mut Counts) {
     let mut rng = Prng::for_case(seed, case);
-    let table = match case % 10 {
-        9 => largest_table(&mut rng),
-        _ => accepted_table(&mut rng),
-    };
-    let count = match case % 100 {
-        0..=29 => rng.below(6),
-        99 => rng.between(2_000, 20_000),
-        _ => rng.between(6, 600),
-    };
-    let mut steps = driven(&mut rng, &table, count);
-    steps.truncate(steps.len().saturating_sub(rng.pick(&[0, 0, 1, 2])));
+    let (table, mut steps) = table_with_steps(&mut rng, case);
     let file = file_bytes(&table);
     Case::new(&file, &steps).compare(&mut rng, counts);
     Case::new(&file, &file).compare(&mut rng, counts);
@@ -93,9 +81,4 @@ fn limits(seed: u64, counts: &mut Counts) {
             Case::new(&file, &steps[..length]).compare(&mut rng, counts);
         }
     }
-}
-
-/// The bytes of steps chosen from the line as it stands.
-fn driven(rng: &mut Prng, table: &Table, count: usize) -> Vec<u8> {
-    step_bytes(&drive(rng, &mut start_line(table), count))
 }

@@ -1,2 +1,2 @@
--- Code 27 at the train and at the box at an index, and of the whole record.
+-- Code 27 at the train and at the box at an index.
 pub mod Laws

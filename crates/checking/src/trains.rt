@@ -5,26 +5,12 @@ use rules::Request;
 use rules::Train;
 use traincomputer::sight;
 ghost use mathlib.Core.Path.{_≡_};
-ghost use mathlib.Core.Bool.{not, _||_};
-ghost use lib.Dec.{eqb};
-ghost use Rattle.rules.specs.Rows.{first};
-ghost use Rattle.rules.specs.Steps.{addressRows};
-ghost use Rattle.rules.specs.Record.{answerCode, messageFault};
+ghost use mathlib.Core.Bool.{_||_};
+ghost use lib.Dec.{ltb};
+ghost use Rattle.rules.specs.Track.{trackIn, pointIn};
+ghost use Rattle.rules.specs.Record.{answerCode, addressFault, messageFault, trainFault, trainsFault};
 ghost use Rattle.traincomputer.specs.Sight.{aroundIn};
-ghost use Rattle.checking.specs.Faults.{trainFaultIn, trainsFault};
-
-// A code that a box can give in answer to a lock request, other than 0.
-fn lock_answer(code: u8) -> bool
-    ensures { λ r. ⌜ r ≡ (eqb code 23 || eqb code 24 || eqb code 25) ⌝ }
-{
-    if code == 23 {
-        return true;
-    }
-    if code == 24 {
-        return true;
-    }
-    code == 25
-}
+ghost use Prim.Native.Nat.{_≤_};
 
 // A code that a box can give in answer to a request.
 fn answer_code(q: Request, code: u8) -> bool
@@ -35,11 +21,19 @@ fn answer_code(q: Request, code: u8) -> bool
     }
     match q {
         Request::Reserve(_) => code == 22,
-        Request::Lock(_) => lock_answer(code),
+        Request::Lock(_) => {
+            if code == 23 {
+                return true;
+            }
+            if code == 24 {
+                return true;
+            }
+            code == 25
+        }
     }
 }
 
-// Codes 16 and 17 at a request of the train with this number and record.
+// A request of the train with this number and record that 16 or 17 would stop.
 fn address_faulty(
     number: u8,
     r: Train,
@@ -49,7 +43,7 @@ fn address_faulty(
     b: &[u8; 256],
     kinds: &[u8; 256],
 ) -> bool
-    ensures { λ x. ⌜ x ≡ not (eqb (first (addressRows (aroundIn (now (a .entry)) (now (b .entry)) (now (kinds .entry)) (now (routes .entry)) number r) r q)) 0) ⌝ }
+    ensures { λ x. ⌜ x ≡ addressFault (aroundIn (now (a .entry)) (now (b .entry)) (now (kinds .entry)) (now (routes .entry)) number r) r q ⌝ }
 {
     let v = sight::around(number, r, routes, a, b, kinds);
     traincomputer::address_code(v, r, q) != 0
@@ -90,7 +84,9 @@ fn train_faulty(
     b: &[u8; 256],
     kinds: &[u8; 256],
 ) -> bool
-    ensures { λ x. ⌜ x ≡ trainFaultIn n (now (a .entry)) (now (b .entry)) (now (kinds .entry)) (now (routes .entry)) number r ⌝ }
+    requires { ⌜ 1 ≤ number ⌝ }
+    requires { ⌜ number ≤ 16 ⌝ }
+    ensures { λ x. ⌜ x ≡ trainFault n (trackIn (now (a .entry)) (now (b .entry))) (pointIn (now (kinds .entry))) (now (routes .entry)) number r ⌝ }
 {
     if placing::shape_faulty(r.direction, r.length) {
         return true;
@@ -127,7 +123,7 @@ pub fn some_train_faulty(
     b: &[u8; 256],
     kinds: &[u8; 256],
 ) -> bool
-    ensures { λ x. ⌜ x ≡ trainsFault n k trains (now (routes .entry)) (now (a .entry)) (now (b .entry)) (now (kinds .entry)) ⌝ }
+    ensures { λ x. ⌜ x ≡ (ltb 16 k || trainsFault n k (trackIn (now (a .entry)) (now (b .entry))) (pointIn (now (kinds .entry))) (now (routes .entry)) trains) ⌝ }
 {
     if k > 16 {
         return true;

@@ -1,24 +1,25 @@
 -- A single step: 27 by the parts of the record that is handed in, then the one step of the loop.
 use Prim.Native.Nat.{ℕ, _≤_}
-use mathlib.Core.Path.{_≡_, refl, _∙_}
+use mathlib.Core.Path.{_≡_, refl, sym, _∙_}
 use mathlib.Core.Bool.{Bool, true, false, not, _||_}
 use mathlib.Core.List.{List, [], _∷_, _++_}
-use borrow.Author.Tests.{eq-eqb, ne-eqb}
-use lib.Dec.{eqb}
+use native.Mathlib.Decide.{ℕ-discrete}
+use borrow.Author.Tests.{eq-eqb, ne-eqb, le-ltb}
+use lib.Dec.{eqb, ltb}
 use lib.ListN.{length, getD, drop}
 use Rattle.rules.specs.declared.Line.{Line}
+use Rattle.rules.specs.Track.{trackIn, pointIn}
 use Rattle.rules.specs.Steps.{Step, step}
-use Rattle.rules.specs.Placing.{tableCode}
-use Rattle.rules.specs.Record.{recordFault, checkedStep}
+use Rattle.rules.specs.Placing.{partsCode, tableCode}
+use Rattle.rules.specs.Record.{trainsFault, boxesFault, recordFault, checkedStep}
 use Rattle.rules.specs.History.{lineAfter, events}
 use Rattle.rules.specs.Run.{wholeSteps, stepCount, answersOf, answersFrom}
 use Rattle.rules.proofs.Tests.{or-left, or-right}
 use Rattle.rules.proofs.Sound.{sound-iff}
-use Rattle.layout.specs.Parts.{partsCode}
-use Rattle.layout.proofs.Parts.{parts-code}
-use Rattle.checking.specs.Faults.{trainsFault, boxesFault}
-use Rattle.checking.proofs.Laws.{record-fault}
+use Rattle.rules.proofs.Accepted.{Limits, accepted}
+use Rattle.layout.proofs.Tracks.{parts-answer}
 use Rattle.engine.specs.Loop.{Columns}
+use Rattle.engine.proofs.Turn.{track-shown, points-shown}
 
 -- A line whose records have their places, with the columns of its table and the table's code.
 pub record Coded (l : Line) (a b kinds : List ℕ) (c : ℕ) : Type 0 where
@@ -27,14 +28,14 @@ pub record Coded (l : Line) (a b kinds : List ℕ) (c : ℕ) : Type 0 where
   pub plans : length (l .table .boxes) ≡ 96
   pub code
       : c
-      ≡ partsCode (l .table .version) (l .table .n) (l .table .m) (l .table .k) (l .table .boxes) (l .table .trains) (l .table .routes) a b
+      ≡ partsCode (l .table .version) (l .table .n) (l .table .m) (l .table .k) (trackIn a b) (l .table .boxes) (l .table .trains) (l .table .routes)
 
 -- What the check finds at the trains and at the boxes of a line.
 abbrev atTrains : Line → List ℕ → List ℕ → List ℕ → Bool
-atTrains l a b kinds = trainsFault (l .table .n) (l .table .k) (l .trains) (l .routes) a b kinds
+atTrains l a b kinds = ltb 16 (l .table .k) || trainsFault (l .table .n) (l .table .k) (trackIn a b) (pointIn kinds) (l .routes) (l .trains)
 
 abbrev atBoxes : Line → Bool
-atBoxes l = boxesFault (l .table .k) (l .table .m) (l .table .boxes) (l .boxes)
+atBoxes l = ltb 96 (l .table .m) || boxesFault (l .table .k) (l .table .m) (l .table .boxes) (l .boxes)
 
 -- All three parts of the check find nothing.
 pub record Passed (l : Line) (a b kinds : List ℕ) (c : ℕ) : Type 0 where
@@ -49,10 +50,26 @@ unfolding checkedStep
 refused-27 s e = rw e refl
 
 module _ {l : Line} {a b kinds : List ℕ} {c : ℕ} (h : Coded l a b kinds c) where
+  coded-table : c ≡ tableCode (l .table)
+  coded-table = parts-answer (l .table) c (track-shown (h .columns) (h .segments)) (h .code)
+
+  coded-limits : c ≡ 0 → Limits (l .table .n) (l .table .m) (l .table .k)
+  coded-limits e = accepted (l .table) (sym coded-table ∙ e) .limits
+
   by-parts : recordFault l ≡ (not (eqb c 0) || atTrains l a b kinds || atBoxes l)
+  unfolding recordFault
   by-parts =
-      let code : c ≡ tableCode (l .table) = rw (h .columns .ends-a, h .columns .ends-b, parts-code (l .table) (h .segments)) at (h .code) in
-      rw code (record-fault l a b kinds (h .columns .ends-a) (h .columns .ends-b) (h .columns .kinds-of) (h .segments) (h .plans))
+      let t = l .table in
+      elim (ℕ-discrete c 0) [
+        | yes e ↦
+            let limits = coded-limits e in
+            rw (le-ltb 16 (t .k) (limits .trainsHigh), le-ltb 96 (t .m) (limits .boxesHigh), coded-table)
+            (sym (λ j.
+            not (eqb (tableCode t) 0)
+            || trainsFault (t .n) (t .k) (track-shown (h .columns) (h .segments) j) (points-shown (h .columns) (h .plans) j) (l .routes) (l .trains)
+            || boxesFault (t .k) (t .m) (t .boxes) (l .boxes)))
+        | no e ↦ rw (← coded-table, ne-eqb c 0 e)
+      ]
 
   -- 27 where a part of the check finds something.
   pub table-faulty : (s : Step) → (c ≡ 0 → ⊥) → record { code = 27; line = l } ≡ checkedStep l s

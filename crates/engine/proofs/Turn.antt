@@ -13,25 +13,32 @@ use Rattle.rules.specs.declared.Train.{Train}
 use Rattle.rules.specs.declared.Line.{Line}
 use Rattle.rules.specs.declared.Outcome.{Outcome}
 use Rattle.rules.specs.Rows.{outside}
-use Rattle.rules.specs.Track.{noBoxPlan}
-use Rattle.rules.specs.Line.{noBox, noTrain, aroundTrain}
+use Rattle.rules.specs.Track.{noBoxPlan, trackOf, trackIn, farBox, pointAt, pointIn}
+use Rattle.rules.specs.Line.{noBox, noTrain, aroundOn, aroundTrain}
 use Rattle.rules.specs.Steps.{Step, step}
 use Rattle.rules.specs.Run.{stepCount}
-use Rattle.layout.specs.Ends.{column, farEnd}
-use Rattle.layout.proofs.Laws.{far-end}
+use Rattle.layout.specs.Column.{column}
+use Rattle.layout.proofs.Tracks.{track-made}
 use Rattle.deciding.specs.declared.Decided.{Decided}
 use Rattle.deciding.specs.declared.Decided.the-variants.{Refused, Changed}
 use Rattle.traincomputer.specs.Sight.{kindOf, aroundIn}
 use Rattle.deciding.specs.Decided.{concernedBox, decided}
-use Rattle.traincomputer.proofs.Around.{around-in}
+use Rattle.traincomputer.proofs.Around.{column-points}
 use Rattle.deciding.proofs.Steps.{leaving, putAt, step-decided}
 use Rattle.engine.specs.Loop.{Columns}
 use Rattle.engine.proofs.Running.{Running, stepAt, running-turn, running-room}
 
--- The columns as they are made.
-pub columns-made : (t : Table) {a b kinds : List ℕ} → a ≡ column (farEnd (t .segments) 1) → b ≡ column (farEnd (t .segments) 0)
+-- The columns as they are made, and what they show: the table's track and its points.
+pub columns-made : (t : Table) {a b kinds : List ℕ} → a ≡ column (farBox (trackOf t) 1) → b ≡ column (farBox (trackOf t) 0)
     → kinds ≡ column (kindOf (t .boxes)) → Columns t a b kinds
-columns-made t e f g = record { ends-a = e ∙ ap column (far-end t 1); ends-b = f ∙ ap column (far-end t 0); kinds-of = g }
+columns-made t e f g = record { ends-a = e; ends-b = f; kinds-of = g }
+
+module _ {t : Table} {a b kinds : List ℕ} (h : Columns t a b kinds) where
+  pub track-shown : length (t .segments) ≡ 96 → trackIn a b ≡ trackOf t
+  track-shown e = track-made (t .segments) e (h .ends-a) (h .ends-b)
+
+  pub points-shown : length (t .boxes) ≡ 96 → pointIn kinds ≡ pointAt t
+  points-shown e = rw (h .kinds-of) (column-points t e)
 
 -- A line whose records have their places, with the columns of its table.
 pub record Ready (l : Line) (a b kinds : List ℕ) : Type 0 where
@@ -50,7 +57,7 @@ ready-after {l} h i j (Changed c r x) =
 -- What stands around a train, as looked up.
 around-is : {t : Table} {a b kinds : List ℕ} → Columns t a b kinds → length (t .segments) ≡ 96 → length (t .boxes) ≡ 96
     → (routes : List ℕ) (i : ℕ) (r : Train) → aroundIn a b kinds routes i r ≡ aroundTrain t routes i r
-around-is {t} h segments boxes routes i r = rw (h .ends-a, h .ends-b, h .kinds-of) (around-in t routes i r segments boxes)
+around-is h segments boxes routes i r = λ j. aroundOn (track-shown h segments j) (points-shown h boxes j) routes i r
 
 -- What is decided, put back at indices i and j, is the step.
 pub record Turned (l : Line) (s : Step) (i j : ℕ) (d : Decided) : Type 0 where

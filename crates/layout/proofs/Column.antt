@@ -8,7 +8,7 @@ use lib.ListN.{length, getD, set, replicate, length-set, length-replicate, List�
 use lib.Seq.{getD-set-same, getD-set-other, ext-getD}
 use Rattle.rules.specs.Rows.{listFrom}
 use Rattle.rules.proofs.Rows.{from-length, from-at, replicate-at}
-use Rattle.layout.specs.Ends.{column}
+use Rattle.layout.specs.Column.{column}
 
 -- A list of n that is filled with f 0, f 1 and so on: f 0 to f i stand, and the rest is 0.
 pub record Filled (n : ℕ) (f : ℕ → ℕ) (i : ℕ) (l : List ℕ) : Type 0 where

@@ -1,5 +1,8 @@
+-- What stands in a column.
 pub mod Column
+-- What the conditions say in the words of the functions that test them.
 pub mod Laws
 pub mod Routes
 pub mod Codes
-pub mod Parts
+-- The columns of a table are its track.
+pub mod Tracks

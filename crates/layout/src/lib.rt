@@ -8,9 +8,9 @@ use rules::TrainPlan;
 ghost use mathlib.Core.Path.{_≡_};
 ghost use Prim.Native.Nat.{_≤_};
 ghost use Rattle.rules.specs.Rows.{first};
-ghost use Rattle.rules.specs.Network.{headRows};
-ghost use Rattle.rules.specs.Placing.{tableCode};
-ghost use Rattle.layout.specs.Parts.{networkRowsIn, placingRowsIn, partsCode};
+ghost use Rattle.rules.specs.Track.{trackIn};
+ghost use Rattle.rules.specs.Network.{headRows, networkRows};
+ghost use Rattle.rules.specs.Placing.{placingRows, partsCode, tableCode};
 
 // Codes 3 and 4: the version, and the numbers of segments, boxes and trains.
 pub fn head_code(version: u16, n: u8, m: u8, k: u8) -> u8
@@ -34,10 +34,11 @@ pub fn head_code(version: u16, n: u8, m: u8, k: u8) -> u8
     0
 }
 
-// Codes 6 to 9 of a table record with at most 96 boxes, with the boxes at the A ends and at the B ends of its segments.
+// Codes 6 to 9 of a table record with at most 96 segments and 96 boxes, with the boxes at the A ends and at the B ends of its segments.
 fn network_code(n: u8, m: u8, plans: [BoxPlan; 96], a: &[u8; 256], b: &[u8; 256]) -> u8
+    requires { ⌜ n ≤ 96 ⌝ }
     requires { ⌜ m ≤ 96 ⌝ }
-    ensures { λ r. ⌜ r ≡ first (networkRowsIn n m plans (now (a .entry)) (now (b .entry))) ⌝ }
+    ensures { λ r. ⌜ r ≡ first (networkRows n m (trackIn (now (a .entry)) (now (b .entry))) plans) ⌝ }
 {
     if network::some_ends_faulty(n, m, a, b) {
         return 6;
@@ -67,7 +68,7 @@ fn placing_code(
     b: &[u8; 256],
 ) -> u8
     requires { ⌜ k ≤ 16 ⌝ }
-    ensures { λ r. ⌜ r ≡ first (placingRowsIn n k trains (now (routes .entry)) (now (a .entry)) (now (b .entry))) ⌝ }
+    ensures { λ r. ⌜ r ≡ first (placingRows n k (trackIn (now (a .entry)) (now (b .entry))) trains (now (routes .entry))) ⌝ }
 {
     if placing::some_shape_faulty(k, trains) {
         return 10;
@@ -94,7 +95,7 @@ pub fn parts_code(
     a: &[u8; 256],
     b: &[u8; 256],
 ) -> u8
-    ensures { λ r. ⌜ r ≡ partsCode version n m k plans trains (now (routes .entry)) (now (a .entry)) (now (b .entry)) ⌝ }
+    ensures { λ r. ⌜ r ≡ partsCode version n m k (trackIn (now (a .entry)) (now (b .entry))) plans trains (now (routes .entry)) ⌝ }
 {
     let head = head_code(version, n, m, k);
     if head != 0 {

@@ -2,15 +2,12 @@
 use rules::BoxPlan;
 use rules::Segment;
 ghost use mathlib.Core.Path.{_≡_};
-ghost use mathlib.Core.Bool.{false, not, _&&_, _||_};
+ghost use mathlib.Core.Bool.{false};
 ghost use Prim.Native.Nat.{_≤_};
-ghost use lib.Dec.{eqb};
-ghost use Rattle.rules.specs.Rows.{anyOf, outside};
-ghost use Rattle.rules.specs.Track.{isPoint, positionFits};
-ghost use Rattle.rules.specs.Network.{placeFault, planFault, lists};
-ghost use Rattle.loops.specs.Track.{endsIn};
-ghost use Rattle.layout.specs.Ends.{column, farEnd, boxFaultOn};
-ghost use Rattle.layout.specs.Parts.{endsFaultIn, planFaultIn, boxFaultIn, unlistedIn};
+ghost use Rattle.rules.specs.Rows.{anyOf, outside, nth};
+ghost use Rattle.rules.specs.Track.{noBoxPlan, trackBy, trackIn, farBox, positionFits};
+ghost use Rattle.rules.specs.Network.{endsFault, placeFault, branchesFault, planFault, lists, listedFault, sideFault, boxFault, unlistedFault};
+ghost use Rattle.layout.specs.Column.{column};
 
 // x is 0 or above n.
 pub(crate) fn outside(n: u8, x: u8) -> bool
@@ -24,7 +21,7 @@ pub(crate) fn outside(n: u8, x: u8) -> bool
 
 // The box at the far end of each segment in direction d, by the segment's number: B ends for 0, A ends for any other.
 pub fn far_boxes(segments: [Segment; 96], d: u8) -> [u8; 256]
-    ensures { λ r. ⌜ r ≡ column (farEnd segments d) ⌝ }
+    ensures { λ r. ⌜ r ≡ column (farBox (trackBy segments) d) ⌝ }
 {
     let mut boxes = [0u8; 256];
     let mut i: usize = 0;
@@ -36,27 +33,29 @@ pub fn far_boxes(segments: [Segment; 96], d: u8) -> [u8; 256]
     boxes
 }
 
-// Code 6 on the two end boxes of a segment.
-fn ends_faulty(m: u8, a: u8, b: u8) -> bool
-    ensures { λ r. ⌜ r ≡ (outside m a || outside m b || eqb a b) ⌝ }
+// Code 6 at segment s.
+fn ends_faulty(m: u8, a: &[u8; 256], b: &[u8; 256], s: u8) -> bool
+    ensures { λ r. ⌜ r ≡ endsFault m (trackIn (now (a .entry)) (now (b .entry))) s ⌝ }
 {
-    if outside(m, a) {
+    let x = a[s as usize];
+    let y = b[s as usize];
+    if outside(m, x) {
         return true;
     }
-    if outside(m, b) {
+    if outside(m, y) {
         return true;
     }
-    a == b
+    x == y
 }
 
 // Code 6: some segment has an end at no box, or both ends at one box.
 pub(crate) fn some_ends_faulty(n: u8, m: u8, a: &[u8; 256], b: &[u8; 256]) -> bool
-    ensures { λ r. ⌜ r ≡ anyOf n (endsFaultIn m (now (a .entry)) (now (b .entry))) ⌝ }
+    ensures { λ r. ⌜ r ≡ anyOf n (endsFault m (trackIn (now (a .entry)) (now (b .entry)))) ⌝ }
 {
     let mut s: u8 = 0;
     while s < n {
         s += 1;
-        if ends_faulty(m, a[s as usize], b[s as usize]) {
+        if ends_faulty(m, a, b, s) {
             return true;
         }
     }
@@ -86,9 +85,9 @@ pub fn position_fits(p: BoxPlan, x: u8) -> bool
     x == 0
 }
 
-// A point with one segment at both branches.
-fn branches_equal(p: BoxPlan) -> bool
-    ensures { λ r. ⌜ r ≡ (isPoint p && eqb (p .left) (p .right)) ⌝ }
+// Code 7: a point with one segment at both branches.
+fn branches_faulty(p: BoxPlan) -> bool
+    ensures { λ r. ⌜ r ≡ branchesFault p ⌝ }
 {
     if p.kind != 2 {
         return false;
@@ -112,7 +111,7 @@ fn plan_faulty(n: u8, p: BoxPlan) -> bool
     if place_faulty(n, p.kind == 2, p.right) {
         return true;
     }
-    if branches_equal(p) {
+    if branches_faulty(p) {
         return true;
     }
     !position_fits(p, p.position)
@@ -121,7 +120,7 @@ fn plan_faulty(n: u8, p: BoxPlan) -> bool
 // Code 7: some box is not as its kind asks.
 pub(crate) fn some_plan_faulty(n: u8, m: u8, plans: [BoxPlan; 96]) -> bool
     requires { ⌜ m ≤ 96 ⌝ }
-    ensures { λ r. ⌜ r ≡ anyOf m (planFaultIn n plans) ⌝ }
+    ensures { λ r. ⌜ r ≡ anyOf m (λ b. planFault n (nth plans b noBoxPlan)) ⌝ }
 {
     let last = m as usize;
     let mut i: usize = 0;
@@ -135,85 +134,69 @@ pub(crate) fn some_plan_faulty(n: u8, m: u8, plans: [BoxPlan; 96]) -> bool
     false
 }
 
-// Code 8 at a listed segment s with these ends: it has none at the box.
-fn listed_faulty(number: u8, s: u8, ends: Segment) -> bool
-    ensures { λ r. ⌜ r ≡ (not (eqb s 0) && not (eqb (ends .a) number || eqb (ends .b) number)) ⌝ }
+// Code 8 at a segment s that the box lists: it has no end there.
+fn listed_faulty(a: &[u8; 256], b: &[u8; 256], number: u8, s: u8) -> bool
+    ensures { λ r. ⌜ r ≡ listedFault (trackIn (now (a .entry)) (now (b .entry))) number s ⌝ }
 {
     if s == 0 {
         return false;
     }
-    if ends.a == number {
+    if a[s as usize] == number {
         return false;
     }
-    ends.b != number
+    b[s as usize] != number
 }
 
-// Both ends are at the box.
-fn both_at(number: u8, x: u8, y: u8) -> bool
-    ensures { λ r. ⌜ r ≡ (eqb x number && eqb y number) ⌝ }
-{
-    if x != number {
-        return false;
-    }
-    y == number
-}
-
-// Code 8 at a branch s with these ends: it is on the stem's side of the box.
-fn side_faulty(number: u8, stem: Segment, s: u8, ends: Segment) -> bool
-    ensures { λ r. ⌜ r ≡ (not (eqb s 0) && ((eqb (stem .a) number && eqb (ends .a) number) || (eqb (stem .b) number && eqb (ends .b) number))) ⌝ }
+// Code 8 at a branch s: it is on the stem's side of the box.
+fn side_faulty(a: &[u8; 256], b: &[u8; 256], number: u8, stem: u8, s: u8) -> bool
+    ensures { λ r. ⌜ r ≡ sideFault (trackIn (now (a .entry)) (now (b .entry))) number stem s ⌝ }
 {
     if s == 0 {
         return false;
     }
-    if both_at(number, stem.a, ends.a) {
-        return true;
+    if a[stem as usize] == number {
+        if a[s as usize] == number {
+            return true;
+        }
     }
-    both_at(number, stem.b, ends.b)
+    if b[stem as usize] == number {
+        if b[s as usize] == number {
+            return true;
+        }
+    }
+    false
 }
 
-// The ends of segment s, from the columns of A ends and of B ends.
-fn ends_in(a: &[u8; 256], b: &[u8; 256], s: u8) -> Segment
-    ensures { λ r. ⌜ r ≡ endsIn (now (a .entry)) (now (b .entry)) s ⌝ }
+// Code 8 at a box.
+fn box_faulty(a: &[u8; 256], b: &[u8; 256], number: u8, p: BoxPlan) -> bool
+    ensures { λ r. ⌜ r ≡ boxFault (trackIn (now (a .entry)) (now (b .entry))) number p ⌝ }
 {
-    Segment {
-        a: a[s as usize],
-        b: b[s as usize],
-    }
-}
-
-// Code 8 at a box whose places list segments with these ends.
-fn box_faulty(number: u8, p: BoxPlan, stem: Segment, left: Segment, right: Segment) -> bool
-    ensures { λ r. ⌜ r ≡ boxFaultOn number p stem left right ⌝ }
-{
-    if listed_faulty(number, p.stem, stem) {
+    if listed_faulty(a, b, number, p.stem) {
         return true;
     }
-    if listed_faulty(number, p.left, left) {
+    if listed_faulty(a, b, number, p.left) {
         return true;
     }
-    if listed_faulty(number, p.right, right) {
+    if listed_faulty(a, b, number, p.right) {
         return true;
     }
-    if side_faulty(number, stem, p.left, left) {
+    if side_faulty(a, b, number, p.stem, p.left) {
         return true;
     }
-    side_faulty(number, stem, p.right, right)
+    side_faulty(a, b, number, p.stem, p.right)
 }
 
 // Code 8: some box lists a segment without an end there, or a branch on the stem's side.
 pub(crate) fn some_box_faulty(m: u8, plans: [BoxPlan; 96], a: &[u8; 256], b: &[u8; 256]) -> bool
     requires { ⌜ m ≤ 96 ⌝ }
-    ensures { λ r. ⌜ r ≡ anyOf m (boxFaultIn plans (now (a .entry)) (now (b .entry))) ⌝ }
+    ensures { λ r. ⌜ r ≡ anyOf m (λ x. boxFault (trackIn (now (a .entry)) (now (b .entry))) x (nth plans x noBoxPlan)) ⌝ }
 {
     let mut number: u8 = 0;
     while number < m {
         let i = number as usize;
         number += 1;
         let p = plans[i];
-        let stem = ends_in(a, b, p.stem);
-        let left = ends_in(a, b, p.left);
-        let right = ends_in(a, b, p.right);
-        if box_faulty(number, p, stem, left, right) {
+        if box_faulty(a, b, number, p) {
             return true;
         }
     }
@@ -235,8 +218,8 @@ fn lists(p: BoxPlan, s: u8) -> bool
 
 // Code 8: some segment is not listed by the box at one of its ends. No end is without its box: code 6 comes before.
 pub(crate) fn some_unlisted(n: u8, plans: [BoxPlan; 96], a: &[u8; 256], b: &[u8; 256]) -> bool
-    requires { ⌜ anyOf n (endsFaultIn 96 (now a) (now b)) ≡ false ⌝ }
-    ensures { λ r. ⌜ r ≡ anyOf n (unlistedIn plans (now (a .entry)) (now (b .entry))) ⌝ }
+    requires { ⌜ anyOf n (endsFault 96 (trackIn (now a) (now b))) ≡ false ⌝ }
+    ensures { λ r. ⌜ r ≡ anyOf n (unlistedFault (trackIn (now (a .entry)) (now (b .entry))) plans) ⌝ }
 {
     let mut number: u8 = 0;
     while number < n {

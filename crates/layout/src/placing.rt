@@ -2,14 +2,11 @@
 use super::network;
 use rules::TrainPlan;
 ghost use mathlib.Core.Path.{_≡_};
-ghost use mathlib.Core.Bool.{not};
+ghost use mathlib.Core.Bool.{_||_};
 ghost use Prim.Native.Nat.{_+_, _≤_};
-ghost use lib.Dec.{eqb};
-ghost use lib.ListN.{getD};
-ghost use Rattle.rules.specs.Rows.{anyOf};
-ghost use Rattle.rules.specs.Placing.{routeShapeFault};
-ghost use Rattle.layout.specs.Ends.{placeBreaks, routeFaultIn, sharesStart};
-ghost use Rattle.layout.specs.Parts.{shapeFaultIn, trainRouteFaultIn, startFaultIn};
+ghost use Rattle.rules.specs.Rows.{anyOf, outside};
+ghost use Rattle.rules.specs.Track.{trackIn, follows};
+ghost use Rattle.rules.specs.Placing.{routeShapeFault, routeFault, startFault, planShapeFault, planRouteFault};
 
 // Code 10 on a train's direction and route length.
 pub fn shape_faulty(d: u8, r: u8) -> bool
@@ -24,7 +21,7 @@ pub fn shape_faulty(d: u8, r: u8) -> bool
 // Code 10: some train has a direction above 1, or a route length outside 1 to 64.
 pub(crate) fn some_shape_faulty(k: u8, trains: [TrainPlan; 16]) -> bool
     requires { ⌜ k ≤ 16 ⌝ }
-    ensures { λ r. ⌜ r ≡ anyOf k (shapeFaultIn trains) ⌝ }
+    ensures { λ r. ⌜ r ≡ anyOf k (planShapeFault trains) ⌝ }
 {
     let last = k as usize;
     let mut i: usize = 0;
@@ -38,11 +35,11 @@ pub(crate) fn some_shape_faulty(k: u8, trains: [TrainPlan; 16]) -> bool
     false
 }
 
-// The far end of one segment and the near end of another are at different boxes.
-fn apart(before: u8, s: u8, near: &[u8; 256], far: &[u8; 256]) -> bool
-    ensures { λ r. ⌜ r ≡ not (eqb (getD (now (far .entry)) before 0) (getD (now (near .entry)) s 0)) ⌝ }
+// Segment s follows the one before it, by the boxes at the near and the far ends of segments.
+fn follows(before: u8, s: u8, near: &[u8; 256], far: &[u8; 256]) -> bool
+    ensures { λ r. ⌜ r ≡ follows (trackIn (now (near .entry)) (now (far .entry))) 0 before s ⌝ }
 {
-    far[before as usize] != near[s as usize]
+    far[before as usize] == near[s as usize]
 }
 
 // Code 11 at some place of a train's route of length r, by the boxes at the near and the far ends of segments. Place 65, which no
@@ -57,7 +54,7 @@ fn route_breaks(
 ) -> bool
     requires { ⌜ 1 ≤ train ⌝ }
     requires { ⌜ train ≤ 16 ⌝ }
-    ensures { λ x. ⌜ x ≡ anyOf r (placeBreaks n (now (near .entry)) (now (far .entry)) (now (routes .entry)) train) ⌝ }
+    ensures { λ x. ⌜ x ≡ routeFault n (trackIn (now (near .entry)) (now (far .entry))) (now (routes .entry)) train 0 r ⌝ }
 {
     if r > 64 {
         return true;
@@ -72,7 +69,7 @@ fn route_breaks(
             return true;
         }
         if p > 0 {
-            if apart(routes[start + p - 1], s, near, far) {
+            if !follows(routes[start + p - 1], s, near, far) {
                 return true;
             }
         }
@@ -92,7 +89,7 @@ pub fn route_faulty(
     a: &[u8; 256],
     b: &[u8; 256],
 ) -> bool
-    ensures { λ x. ⌜ x ≡ routeFaultIn n (now (a .entry)) (now (b .entry)) (now (routes .entry)) train d r ⌝ }
+    ensures { λ x. ⌜ x ≡ (outside 16 train || routeFault n (trackIn (now (a .entry)) (now (b .entry))) (now (routes .entry)) train d r) ⌝ }
 {
     if train == 0 {
         return true;
@@ -116,7 +113,7 @@ pub(crate) fn some_route_faulty(
     b: &[u8; 256],
 ) -> bool
     requires { ⌜ k ≤ 16 ⌝ }
-    ensures { λ r. ⌜ r ≡ anyOf k (trainRouteFaultIn n trains (now (routes .entry)) (now (a .entry)) (now (b .entry))) ⌝ }
+    ensures { λ r. ⌜ r ≡ anyOf k (planRouteFault n (trackIn (now (a .entry)) (now (b .entry))) trains (now (routes .entry))) ⌝ }
 {
     let mut number: u8 = 0;
     while number < k {
@@ -133,7 +130,7 @@ pub(crate) fn some_route_faulty(
 // Code 12 at the train with this index: a train before it begins with the same segment.
 fn start_shared(routes: &[u8; 1024], index: usize) -> bool
     requires { ⌜ index + 1 ≤ 16 ⌝ }
-    ensures { λ r. ⌜ r ≡ anyOf index (sharesStart (now (routes .entry)) (index + 1)) ⌝ }
+    ensures { λ r. ⌜ r ≡ startFault (now (routes .entry)) (index + 1) ⌝ }
 {
     let first = routes[64 * index];
     let mut j: usize = 0;
@@ -149,7 +146,7 @@ fn start_shared(routes: &[u8; 1024], index: usize) -> bool
 // Code 12: two trains begin with one segment.
 pub(crate) fn some_start_shared(k: u8, routes: &[u8; 1024]) -> bool
     requires { ⌜ k ≤ 16 ⌝ }
-    ensures { λ r. ⌜ r ≡ anyOf k (startFaultIn (now (routes .entry))) ⌝ }
+    ensures { λ r. ⌜ r ≡ anyOf k (startFault (now (routes .entry))) ⌝ }
 {
     let last = k as usize;
     let mut i: usize = 0;

@@ -1,21 +1,17 @@
 -- Laws of ranks of boxes: a pass that raises them along the segments, and what its end says of loops.
 use Prim.Native.Nat.{ℕ, zero, suc, _+_, _-_, _*_, _≤_, _<_}
-use mathlib.Core.Path.{_≡_, sym, _∙_, ap}
-use mathlib.Core.Bool.{Bool, true, false, false≢true}
+use mathlib.Core.Path.{_≡_, sym, _∙_}
+use mathlib.Core.Bool.{Bool, true, false, _||_, false≢true}
 use mathlib.Core.List.{List, [], _∷_, List·Memᴰ}
 use native.Mathlib.Decide.{ℕ-discrete}
 use native.Mathlib.Omega.{arith}
 use borrow.Author.Tests.{lt-ltb, le-ltb}
+use lib.Dec.{ltb}
 use lib.ListN.{length, getD, set, replicate, length-set, length-replicate}
-use Rattle.rules.specs.declared.Segment.{Segment}
-use Rattle.rules.specs.declared.Table.{Table}
-use Rattle.rules.specs.Rows.{nth, listOf}
-use Rattle.rules.specs.Track.{noSegment, segmentAt, endA, endB}
+use Rattle.rules.specs.Track.{Track, trackIn}
 use Rattle.rules.specs.Loop.{SegmentOf, chainEnds, hasLoop}
-use Rattle.rules.proofs.Rows.{nth-at, list-at}
 use Rattle.rules.proofs.Frames.{set-either}
 use Rattle.rules.proofs.Loop.{segment-ends, box-follows, ends-more, ends-loop, rising-no-loop}
-use Rattle.loops.specs.Track.{endsIn, trackOf, loopIn}
 use Rattle.loops.specs.Ranks.{Low, ChainTo, Reached, total, told, Ended}
 use Rattle.loops.specs.declared.Pass.{Pass}
 use Rattle.loops.specs.declared.Pass.the-variants.{Rising, Raised, TooHigh}
@@ -48,43 +44,43 @@ low-set l i v k h u w =
       low = λ x. set-either (λ y. y ≤ 96) l i x v 0 (λ e. omega arith) (h .low x);
     }
 
-pub low-reached : (t : Table) (l : List ℕ) → Low l → Reached t l
-low-reached t l h =
+pub low-reached : (n : ℕ) (t : Track) (l : List ℕ) → Low l → Reached n t l
+low-reached n t l h =
     record {
       size = h .size;
       bounded = λ x. omega (arith, h .low x);
       chained = λ x r e. absurd (omega (arith, h .low x));
     }
 
-module _ (t : Table) where
-  -- The segment at index i is numbered i + 1.
-  number : (i : ℕ) → i < t .n → SegmentOf t (i + 1)
-  number i h = record { low = omega arith; high = omega arith }
+-- The segment at index i is numbered i + 1.
+number : (n i : ℕ) → i < n → SegmentOf n (i + 1)
+number n i h = record { low = omega arith; high = omega arith }
 
+module _ (n : ℕ) (t : Track) where
   -- A segment whose A end has the rank 96 + r ends a chain of r + 1 segments.
-  reach : (l : List ℕ) (s r : ℕ) → Reached t l → SegmentOf t s → getD l (endA t s) 0 ≡ 96 + r → List·Memᴰ s (chainEnds t r)
-  reach l s zero h k e = segment-ends t s k
+  reach : (l : List ℕ) (s r : ℕ) → Reached n t l → SegmentOf n s → getD l (t .endA s) 0 ≡ 96 + r → List·Memᴰ s (chainEnds n t r)
+  reach l s zero h k e = segment-ends n t s k
   reach l s (suc r) h k e =
-      let c = h .chained (endA t s) r (omega arith) in
-      ends-more t r (c .last) s (c .listed) k (box-follows t (c .last) s (c .there))
+      let c = h .chained (t .endA s) r (omega arith) in
+      ends-more n t r (c .last) s (c .listed) k (box-follows t (c .last) s (c .there))
 
   -- What holds of raised ranks still does where the rank at the B end of a segment is set above the one at its A end.
-  reached-raised : (l : List ℕ) (s : ℕ) → Reached t l → SegmentOf t s → getD l (endA t s) 0 < t .n + 96
-      → Reached t (set l (endB t s) (getD l (endA t s) 0 + 1))
+  reached-raised : (l : List ℕ) (s : ℕ) → Reached n t l → SegmentOf n s → getD l (t .endA s) 0 < n + 96
+      → Reached n t (set l (t .endB s) (getD l (t .endA s) 0 + 1))
   reached-raised l s h k u =
-      let v = getD l (endA t s) 0 + 1 in
+      let v = getD l (t .endA s) 0 + 1 in
       record {
-        size = length-set l (endB t s) v ∙ h .size;
-        bounded = λ x. set-either (λ y. y ≤ t .n + 96) l (endB t s) x v 0 (λ e. omega arith) (h .bounded x);
+        size = length-set l (t .endB s) v ∙ h .size;
+        bounded = λ x. set-either (λ y. y ≤ n + 96) l (t .endB s) x v 0 (λ e. omega arith) (h .bounded x);
         chained = λ x r.
-            set-either (λ y. y ≡ 97 + r → ChainTo t r x) l (endB t s) x v 0
+            set-either (λ y. y ≡ 97 + r → ChainTo n t r x) l (t .endB s) x v 0
             (λ e f. record { last = s; listed = reach l s r h k (omega arith); there = sym e }) (h .chained x r);
       }
 
   -- Where the rank at the A end of a segment is 96 + n, there is a loop.
-  high-loop : (l : List ℕ) (s : ℕ) → Reached t l → SegmentOf t s → t .n + 96 ≤ getD l (endA t s) 0 → hasLoop t ≡ true
+  high-loop : (l : List ℕ) (s : ℕ) → Reached n t l → SegmentOf n s → n + 96 ≤ getD l (t .endA s) 0 → hasLoop n t ≡ true
   high-loop l s h k u =
-      ends-loop t s (reach l s (t .n) h k (omega (arith, h .bounded (endA t s))))
+      ends-loop n t s (reach l s n h k (omega (arith, h .bounded (t .endA s))))
 
 -- 1 for a pass that raised a rank.
 unfoldable pub steps : Bool → ℕ
@@ -92,46 +88,27 @@ steps false = 0
 steps true = 1
 
 -- A pass that has done the segments below index i: the ranks before it and now, and whether it raised one.
-pub record Passing (t : Table) (before after : List ℕ) (raised : Bool) (i : ℕ) : Type 0 where
-  pub within : i ≤ t .n
-  pub reached : Reached t after
+pub record Passing (n : ℕ) (t : Track) (before after : List ℕ) (raised : Bool) (i : ℕ) : Type 0 where
+  pub within : i ≤ n
+  pub reached : Reached n t after
   pub grown : total before + steps raised ≤ total after
-  pub rising : raised ≡ false → (s : ℕ) → 1 ≤ s → s ≤ i → getD after (endA t s) 0 < getD after (endB t s) 0
-
--- The ends of the segment at index i, from the columns.
-module _ (n : ℕ) (a b : List ℕ) (i : ℕ) (h : i < 96) where
-  track-at : nth (listOf 96 (endsIn a b)) (i + 1) noSegment ≡ endsIn a b (i + 1)
-  track-at = nth-at _ i noSegment ∙ list-at (endsIn a b) 96 i noSegment h
-
-  track-a : endA (trackOf n a b) (i + 1) ≡ getD a (i + 1) 0
-  unfolding endA segmentAt
-  track-a = ap (λ (s : Segment). s .a) track-at
-
-  track-b : endB (trackOf n a b) (i + 1) ≡ getD b (i + 1) 0
-  unfolding endB segmentAt
-  track-b = ap (λ (s : Segment). s .b) track-at
+  pub rising : raised ≡ false → (s : ℕ) → 1 ≤ s → s ≤ i → getD after (t .endA s) 0 < getD after (t .endB s) 0
 
 -- The start of a pass; a segment along which the ranks rise, one along which a rank is raised, one whose A end is too high; and
 -- the end of a pass that raised some rank, and of one that raised none.
-module _ (n : ℕ) (few : n ≤ 96) (a b l : List ℕ) where
-  abbrev track : Table
-  track = trackOf n a b
+module _ (n : ℕ) (a b l : List ℕ) where
+  abbrev track : Track
+  track = trackIn a b
 
-  pub passing-start : Reached track l → Passing track l l false 0
+  pub passing-start : Reached n track l → Passing n track l l false 0
   unfolding steps
   passing-start h =
       record { within = omega arith; reached = h; grown = omega arith; rising = λ e s a b. absurd (omega arith) }
 
-  module _ (now : List ℕ) (f : Bool) (i : ℕ) (p : Passing track l now f i) where
+  module _ (now : List ℕ) (f : Bool) (i : ℕ) (p : Passing n track l now f i) where
     -- Boxes x and y are those at its ends.
     module _ (x y : ℕ) (at-a : x ≡ getD a (i + 1) 0) (at-b : y ≡ getD b (i + 1) 0) (h : i < n) where
-      here-a : endA track (i + 1) ≡ x
-      here-a = track-a n a b i (omega arith) ∙ sym at-a
-
-      here-b : endB track (i + 1) ≡ y
-      here-b = track-b n a b i (omega arith) ∙ sym at-b
-
-      pub passing-kept : getD now x 0 < getD now y 0 → Passing track l now f (i + 1)
+      pub passing-kept : getD now x 0 < getD now y 0 → Passing n track l now f (i + 1)
       passing-kept k =
           record {
             within = omega arith;
@@ -139,60 +116,58 @@ module _ (n : ℕ) (few : n ≤ 96) (a b l : List ℕ) where
             grown = p .grown;
             rising = λ e s u v.
                 elim (ℕ-discrete s (i + 1)) [
-                  | yes q ↦ rw (q, here-a, here-b) k
+                  | yes q ↦ rw (q, ← at-a, ← at-b) k
                   | no q ↦ p .rising e s u (omega arith)
                 ];
           }
 
       pub passing-raised : y < 256 → getD now y 0 ≤ getD now x 0 → getD now x 0 < n + 96
-          → Passing track l (set now y (getD now x 0 + 1)) true (i + 1)
+          → Passing n track l (set now y (getD now x 0 + 1)) true (i + 1)
       unfolding steps
       passing-raised w k u =
-          let r = reached-raised track now (i + 1) (p .reached) (number track i h) (rw here-a u) in
+          let r = reached-raised n track now (i + 1) (p .reached) (number n i h) (rw (sym at-a) u) in
           record {
             within = omega arith;
-            reached = rw (here-a, here-b) at r;
+            reached = rw (← at-a, ← at-b) at r;
             grown = omega (arith, total-set now y (getD now x 0 + 1) (omega arith), p .grown);
             rising = λ e. absurd (false≢true (sym e));
           }
 
-      pub passing-high : n + 96 ≤ getD now x 0 → Ended track l now TooHigh
+      pub passing-high : n + 96 ≤ getD now x 0 → Ended n track l now TooHigh
       unfolding told
       passing-high u =
-          record { reached = p .reached; tells = high-loop track now (i + 1) (p .reached) (number track i h) (rw here-a u) }
+          record { reached = p .reached; tells = high-loop n track now (i + 1) (p .reached) (number n i h) (rw (sym at-a) u) }
 
-    pub passed-raised : f ≡ true → Ended track l now Raised
+    pub passed-raised : f ≡ true → Ended n track l now Raised
     unfolding told steps
     passed-raised e = let g = rw e at (p .grown) in record { reached = p .reached; tells = omega arith }
 
-    pub passed-rising : f ≡ false → n ≤ i → Ended track l now Rising
+    pub passed-rising : f ≡ false → n ≤ i → Ended n track l now Rising
     unfolding told
     passed-rising e h =
         record {
           reached = p .reached;
-          tells = rising-no-loop track (λ x. getD now x 0) (λ s k. p .rising e s (k .low) (omega arith));
+          tells = rising-no-loop n track (λ x. getD now x 0) (λ s k. p .rising e s (k .low) (omega arith));
         }
 
--- The sum that ranks can have.
-reached-total : (t : Table) (l : List ℕ) → t .n ≤ 96 → Reached t l → total l ≤ 49152
-reached-total t l n h = omega (arith, total-bounded 192 l (λ x. omega (arith, h .bounded x)))
+-- More segments than there is room for.
+pub too-many : (n : ℕ) (t : Track) → 96 < n → true ≡ (ltb 96 n || hasLoop n t)
+too-many n t h = rw (lt-ltb 96 n h)
 
--- More segments than there is room for; what the end of a pass says of loops; and what is left of the sum that ranks can have,
--- which is less after each pass that raised one.
-module _ (n : ℕ) (a b : List ℕ) where
-  pub too-many : 96 < n → true ≡ loopIn n a b
-  unfolding loopIn
-  too-many h = rw (lt-ltb 96 n h)
+-- The sum that ranks can have; what the end of a pass says of loops; and what is left of that sum, which is less after each pass
+-- that raised a rank.
+reached-total : (n : ℕ) (t : Track) (l : List ℕ) → n ≤ 96 → Reached n t l → total l ≤ 49152
+reached-total n t l few h = omega (arith, total-bounded 192 l (λ x. omega (arith, h .bounded x)))
 
-  module _ (before after : List ℕ) (pass : Pass) (h : Ended (trackOf n a b) before after pass) (few : n ≤ 96) where
-    pub rising-none : pass ≡ Rising → false ≡ loopIn n a b
-    unfolding told loopIn
-    rising-none e = let k = rw e at (h .tells) in rw (le-ltb 96 n few) (sym k)
+module _ (n : ℕ) (t : Track) (before after : List ℕ) (pass : Pass) (h : Ended n t before after pass) (few : n ≤ 96) where
+  pub rising-none : pass ≡ Rising → false ≡ (ltb 96 n || hasLoop n t)
+  unfolding told
+  rising-none e = let k = rw e at (h .tells) in rw (le-ltb 96 n few) (sym k)
 
-    pub high-some : pass ≡ TooHigh → true ≡ loopIn n a b
-    unfolding told loopIn
-    high-some e = let k = rw e at (h .tells) in rw (le-ltb 96 n few) (sym k)
+  pub high-some : pass ≡ TooHigh → true ≡ (ltb 96 n || hasLoop n t)
+  unfolding told
+  high-some e = let k = rw e at (h .tells) in rw (le-ltb 96 n few) (sym k)
 
-    pub raised-less : pass ≡ Raised → 49152 - total after < 49152 - total before
-    unfolding told
-    raised-less e = let k = rw e at (h .tells) in omega (arith, reached-total (trackOf n a b) after few (h .reached))
+  pub raised-less : pass ≡ Raised → 49152 - total after < 49152 - total before
+  unfolding told
+  raised-less e = let k = rw e at (h .tells) in omega (arith, reached-total n t after few (h .reached))

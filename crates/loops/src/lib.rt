@@ -4,8 +4,11 @@
 // the answer is right does not rest on it.
 use rules::BoxPlan;
 ghost use mathlib.Core.Path.{_≡_};
+ghost use mathlib.Core.Bool.{_||_};
+ghost use lib.Dec.{ltb};
 ghost use Prim.Native.Nat.{_≤_, _<_};
-ghost use Rattle.loops.specs.Track.{trackOf, loopIn};
+ghost use Rattle.rules.specs.Track.{trackIn};
+ghost use Rattle.rules.specs.Loop.{hasLoop};
 ghost use Rattle.loops.specs.Ranks.{Low, Reached, Ended};
 
 // A byte as an index of a list of 256.
@@ -120,8 +123,8 @@ enum Pass {
 // One pass: along each segment in turn, the rank at its B end is raised above the one at its A end, where it is not so already.
 fn raise(n: u8, a: &[u8; 256], b: &[u8; 256], ranks: &mut [u8; 256]) -> Pass
     requires { ⌜ n ≤ 96 ⌝ }
-    requires { ⌜ Reached (trackOf n (now a) (now b)) (now ranks) ⌝ }
-    ensures { λ r. ⌜ Ended (trackOf n (now (a .entry)) (now (b .entry))) (now (ranks .entry)) (now (ranks .exit)) r ⌝ }
+    requires { ⌜ Reached n (trackIn (now a) (now b)) (now ranks) ⌝ }
+    ensures { λ r. ⌜ Ended n (trackIn (now (a .entry)) (now (b .entry))) (now (ranks .entry)) (now (ranks .exit)) r ⌝ }
 {
     let highest = n + 96;
     let mut raised = false;
@@ -147,7 +150,7 @@ fn raise(n: u8, a: &[u8; 256], b: &[u8; 256], ranks: &mut [u8; 256]) -> Pass
 
 // Code 9: some list of segments closes a loop; or there is room for no more segments.
 pub fn has_loop(n: u8, m: u8, plans: [BoxPlan; 96], a: &[u8; 256], b: &[u8; 256]) -> bool
-    ensures { λ r. ⌜ r ≡ loopIn n (now (a .entry)) (now (b .entry)) ⌝ }
+    ensures { λ r. ⌜ r ≡ (ltb 96 n || hasLoop n (trackIn (now (a .entry)) (now (b .entry)))) ⌝ }
 {
     if n > 96 {
         return true;

@@ -13,7 +13,7 @@ use lib.Seq.{take-suc}
 use Rattle.rules.specs.declared.Line.{Line}
 use Rattle.rules.specs.Rows.{joinOf}
 use Rattle.rules.specs.Track.{routeAt}
-use Rattle.rules.specs.Line.{noBox, noTrain, boxAt, trainAt, aroundTrain, around}
+use Rattle.rules.specs.Line.{noBox, noTrain, boxAt, trainAt, aroundOn, around}
 use Rattle.rules.specs.Run.{stepCount}
 use Rattle.rules.specs.Printout.{bytesOf, decimalIn, decimal, textLine, stepLine, stepLineOf, tailOf, trainLine, bit, boxLine, lineText}
 use Rattle.rules.proofs.Rows.{nth-at}
@@ -175,7 +175,7 @@ short-box i sensor position lock v w x y z =
 
 -- The lines of trains and boxes, one more.
 train-words : (l : Line) (i : ℕ) → let r = getD (l .trains) i noTrain in trainLine l (i + 1) ≡ textLine (bytesOf "train" ∷ decimal (i + 1) ∷ decimal (routeAt (l .routes) (i + 1) (r .place)) ∷ decimal (cond (leb (r .covered) 1) 0 (routeAt (l .routes) (i + 1) (r .place + 1 - r .covered))) ∷ [])
-unfolding trainLine tailOf around aroundTrain trainAt
+unfolding trainLine tailOf around aroundOn trainAt
 train-words l i = rw nth-at
 
 box-words : (l : Line) (i : ℕ) → let x = getD (l .boxes) i noBox in boxLine l (i + 1) ≡ textLine (bytesOf "box" ∷ decimal (i + 1) ∷ decimal (bit (x .sensor)) ∷ decimal (x .position) ∷ decimal (x .lock) ∷ [])

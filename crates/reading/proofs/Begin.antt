@@ -18,7 +18,7 @@ use Rattle.rules.specs.declared.Train.{Train}
 use Rattle.rules.specs.declared.Message.the-variants.{Idle}
 use Rattle.rules.specs.declared.SwitchBox.{SwitchBox}
 use Rattle.rules.specs.Rows.{listOf, filled, outside, nth}
-use Rattle.rules.specs.Track.{noSegment, noTrainPlan, noBoxPlan, segmentAt, planAt, trainPlanAt, routeAt, endA, endB, farBox}
+use Rattle.rules.specs.Track.{noSegment, noTrainPlan, noBoxPlan, segmentAt, planAt, trainPlanAt, routeAt, trackOf, trackBy, farBox}
 use Rattle.rules.specs.Line.{noBox, noTrain, setHolder, startBox, startLine, startTrain, startsOn, startHolder, startBoxWith}
 use Rattle.rules.proofs.Rows.{nth-at, list-length, list-at, list-same, filled-list-at, route-first}
 use Rattle.reading.specs.Start.{boxesAfter}
@@ -83,7 +83,7 @@ module _ (t : Table) (j : ℕ) where
   firstOf = routeAt (t .routes) (j + 1) 1
 
   abbrev aheadOf : ℕ
-  aheadOf = farBox t (trainPlanAt t (j + 1) .direction) firstOf
+  aheadOf = farBox (trackOf t) (trainPlanAt t (j + 1) .direction) firstOf
 
   holder-more : (b s : ℕ) → startHolder t b s (j + 1) ≡ cond (startsOn t b s (j + 1)) (j + 1) (startHolder t b s j)
   unfolding startHolder
@@ -179,8 +179,8 @@ module _ (t : Table) where
       let e : s ≡ s - 1 + 1 = omega arith in
       rw e (nth-at (t .segments) (s - 1) noSegment ∙ List·getD-eq-default (t .segments) noSegment (omega arith))
 
-  far-of : (d s : ℕ) (x : Segment) → segmentAt t s ≡ x → farBox t d s ≡ cond (eqb d 0) (x .b) (x .a)
-  unfolding farBox endA endB
+  far-of : (d s : ℕ) (x : Segment) → segmentAt t s ≡ x → farBox (trackOf t) d s ≡ cond (eqb d 0) (x .b) (x .a)
+  unfolding farBox trackBy segmentAt
   far-of d s x e = ap (λ (y : Segment). cond (eqb d 0) (y .b) (y .a)) e
 
   -- The box at the far end of segment s, by the place of the segment's record.
@@ -188,14 +188,14 @@ module _ (t : Table) where
       p ≡ cond (outside 96 s) 96 (s - 1) →
       p < 96 →
       let x = getD (t .segments) p noSegment in
-      cond (eqb d 0) (x .b) (x .a) ≡ farBox t d s
+      cond (eqb d 0) (x .b) (x .a) ≡ farBox (trackOf t) d s
   unfolding segmentAt
   far-in d s p e l =
       let q : s ≡ p + 1 = place-in s 96 p (omega arith) e l .0 in
       sym (far-of d s (getD (t .segments) p noSegment) (rw q (nth-at (t .segments) p noSegment)))
 
   pub far-out : (d s p : ℕ) →
-      length (t .segments) ≡ 96 → p ≡ cond (outside 96 s) 96 (s - 1) → 96 ≤ p → 0 ≡ farBox t d s
+      length (t .segments) ≡ 96 → p ≡ cond (outside 96 s) 96 (s - 1) → 96 ≤ p → 0 ≡ farBox (trackOf t) d s
   far-out d s p h e l =
       sym (far-of d s noSegment (no-segment s h (place-out s 96 p (omega arith) e l)) ∙ cond-same (eqb d 0) 0)
 
@@ -204,7 +204,7 @@ module _ (t : Table) where
       (j : ℕ) (l : List SwitchBox) (a b : ℕ)
       (h : t .m ≤ 96)
       (e : l ≡ boxesAfter t j)
-      (f : a ≡ farBox t (getD (t .trains) j noTrainPlan .direction) (getD (t .routes) (64 * j) 0))
+      (f : a ≡ farBox (trackOf t) (getD (t .trains) j noTrainPlan .direction) (getD (t .routes) (64 * j) 0))
       (g : b ≡ cond (outside (t .m) a) 96 (a - 1)) where
     ahead : aheadOf t j ≡ a
     ahead = rw (train-plan-at t j, route-first (t .routes) j) (sym f)

@@ -9,20 +9,20 @@ use lib.Dec.{eqb, leb, eqb·suc-zero}
 use native.Mathlib.Omega.{arith}
 use Rattle.rules.specs.declared.Table.{Table}
 use Rattle.rules.specs.declared.BoxPlan.{BoxPlan}
-use Rattle.rules.specs.Rows.{anyOf, outside}
-use Rattle.rules.specs.Track.{planAt, trainPlanAt, routeAt, endA, endB, nearBox, farBox, follows, isPoint, positionFits}
+use Rattle.rules.specs.Rows.{anyOf, nth, outside}
+use Rattle.rules.specs.Track.{noBoxPlan, planAt, trainPlanAt, routeAt, Track, trackOf, nearBox, farBox, follows, isPoint, positionFits}
 use Rattle.rules.specs.Loop.{SegmentOf, Loop}
-use Rattle.rules.specs.Network.{knownVersion, limitsFault, endsFault, placeFault, planFault, lists, hasEndA, hasEndB, listedFault, sideFault, boxFault, unlistedFault, headRows, networkRows}
-use Rattle.rules.specs.Placing.{routeShapeFault, routePlaceFault, routeFault, startFault, placingRows, conditionRows, tableCode}
+use Rattle.rules.specs.Network.{knownVersion, limitsFault, endsFault, placeFault, branchesFault, planFault, lists, hasEndA, hasEndB, listedFault, sideFault, boxFault, unlistedFault, headRows, networkRows}
+use Rattle.rules.specs.Placing.{routeShapeFault, routePlaceFault, routeFault, startFault, planShapeFault, planRouteFault, placingRows, partRows, partsCode, tableCode}
 use Rattle.rules.specs.Safety.{TrainOf, onRoute}
 use Rattle.rules.proofs.Tests.{facts, or-true-iff, eqb-true-iff, leb-true-iff, outside-false-iff, first-none, first-zero-iff}
 use Rattle.rules.proofs.Rows.{any-false-iff, once}
 use Rattle.rules.proofs.Loop.{no-loop-iff}
 
--- A number of a box of the table.
-pub record BoxOf (t : Table) (b : ℕ) : Type 0 where
+-- A number of one of m boxes.
+pub record BoxOf (m : ℕ) (b : ℕ) : Type 0 where
   pub low : 1 ≤ b
-  pub high : b ≤ t .m
+  pub high : b ≤ m
 
 -- Code 4: the numbers of segments, boxes and trains are within their limits.
 pub record Limits (n m k : ℕ) : Type 0 where
@@ -32,22 +32,22 @@ pub record Limits (n m k : ℕ) : Type 0 where
   pub boxesHigh : m ≤ 96
   pub trainsHigh : k ≤ 16
 
--- Code 6: each end of segment s is at a box of the table, and the two are not at one box.
-pub record Ends (t : Table) (s : ℕ) : Type 0 where
-  pub box : (d : ℕ) → BoxOf t (nearBox t d s)
-  pub differ : (d : ℕ) → nearBox t d s ≢ farBox t d s
+-- Code 6: each end of segment s is at one of m boxes, and the two are not at one box.
+pub record Ends (m : ℕ) (track : Track) (s : ℕ) : Type 0 where
+  pub box : (d : ℕ) → BoxOf m (nearBox track d s)
+  pub differ : (d : ℕ) → nearBox track d s ≢ farBox track d s
 
 -- Code 7: what stands at a place of a box that is used in this case only.
-pub record UsedIf (t : Table) (case : Type 0) (s : ℕ) : Type 0 where
-  pub used : case → SegmentOf t s
+pub record UsedIf (n : ℕ) (case : Type 0) (s : ℕ) : Type 0 where
+  pub used : case → SegmentOf n s
   pub unused : ¬ case → s ≡ 0
 
 -- Code 7: the kind of a box, what stands at its places, and its position at the start.
-pub record Planned (t : Table) (p : BoxPlan) : Type 0 where
+pub record Planned (n : ℕ) (p : BoxPlan) : Type 0 where
   pub kind : p .kind ≤ 2
-  pub stem : SegmentOf t (p .stem)
-  pub left : UsedIf t (1 ≤ p .kind) (p .left)
-  pub right : UsedIf t (p .kind ≡ 2) (p .right)
+  pub stem : SegmentOf n (p .stem)
+  pub left : UsedIf n (1 ≤ p .kind) (p .left)
+  pub right : UsedIf n (p .kind ≡ 2) (p .right)
   pub differ : p .kind ≡ 2 → p .left ≢ p .right
   pub position : positionFits p (p .position) ≡ true
 
@@ -61,24 +61,24 @@ abbrev pub Stands : BoxPlan → ℕ → Type 0
 Stands p s = (p .stem ≡ s) ⊎ ((y : ℕ) × Branch p y s)
 
 -- Segment s has an end at box b.
-pub record EndAt (t : Table) (s b : ℕ) : Type 0 where
+pub record EndAt (track : Track) (s b : ℕ) : Type 0 where
   pub direction : ℕ
-  pub there : nearBox t direction s ≡ b
+  pub there : nearBox track direction s ≡ b
 
--- Code 8 at box b: each segment that it lists has an end there, and no branch comes to it by the same end as the stem.
-pub record Sides (t : Table) (b : ℕ) : Type 0 where
-  pub ends : (s : ℕ) → lists (planAt t b) s ≡ true → s ≢ 0 → EndAt t s b
+-- Code 8 at box b with plan p: each segment that it lists has an end there, and no branch comes to it by the same end as the stem.
+pub record Sides (track : Track) (b : ℕ) (p : BoxPlan) : Type 0 where
+  pub ends : (s : ℕ) → lists p s ≡ true → s ≢ 0 → EndAt track s b
   pub opposite
-      : (y s : ℕ) → Branch (planAt t b) y s → s ≢ 0 → (d : ℕ) → nearBox t d (planAt t b .stem) ≡ b → nearBox t d s ≢ b
+      : (y s : ℕ) → Branch p y s → s ≢ 0 → (d : ℕ) → nearBox track d (p .stem) ≡ b → nearBox track d s ≢ b
 
 -- Codes 10 and 11 for train i's route, of direction d and length r, as it stands in routes: its shape, and each of its places
 -- is a segment that follows the one before.
-pub record Routed (t : Table) (routes : List ℕ) (i d r : ℕ) : Type 0 where
+pub record Routed (n : ℕ) (track : Track) (routes : List ℕ) (i d r : ℕ) : Type 0 where
   pub direction : d ≤ 1
   pub low : 1 ≤ r
   pub high : r ≤ 64
-  pub segment : (p : ℕ) → 1 ≤ p → p ≤ r → SegmentOf t (routeAt routes i p)
-  pub next : (p : ℕ) → 1 ≤ p → p < r → follows t d (routeAt routes i p) (routeAt routes i (p + 1)) ≡ true
+  pub segment : (p : ℕ) → 1 ≤ p → p ≤ r → SegmentOf n (routeAt routes i p)
+  pub next : (p : ℕ) → 1 ≤ p → p < r → follows track d (routeAt routes i p) (routeAt routes i (p + 1)) ≡ true
 
 -- An accepted table.
 pub record Accepted (t : Table) : Type 0 where
@@ -87,39 +87,40 @@ pub record Accepted (t : Table) : Type 0 where
   -- Its numbers of segments, boxes and trains are within the limits.
   pub limits : Limits (t .n) (t .m) (t .k)
   -- Each segment runs between two boxes.
-  pub ends : (s : ℕ) → SegmentOf t s → Ends t s
+  pub ends : (s : ℕ) → SegmentOf (t .n) s → Ends (t .m) (trackOf t) s
   -- Each box has the segments that its kind asks for.
-  pub plans : (b : ℕ) → BoxOf t b → Planned t (planAt t b)
+  pub plans : (b : ℕ) → BoxOf (t .m) b → Planned (t .n) (planAt t b)
   -- Each box lists segments with an end there, the branches opposite to the stem.
-  pub sides : (b : ℕ) → BoxOf t b → Sides t b
+  pub sides : (b : ℕ) → BoxOf (t .m) b → Sides (trackOf t) b (planAt t b)
   -- Each end of a segment is listed by its box.
-  pub listed : (d s : ℕ) → SegmentOf t s → lists (planAt t (nearBox t d s)) s ≡ true
+  pub listed : (d s : ℕ) → SegmentOf (t .n) s → lists (planAt t (nearBox (trackOf t) d s)) s ≡ true
   -- No segments follow one another in a circle.
-  pub noLoop : ¬ Loop t
+  pub noLoop : ¬ Loop (t .n) (trackOf t)
   -- Each train has a route.
   pub routes
-      : (i : ℕ) → TrainOf t i → Routed t (t .routes) i (trainPlanAt t i .direction) (trainPlanAt t i .length)
+      : (i : ℕ) → TrainOf t i
+      → Routed (t .n) (trackOf t) (t .routes) i (trainPlanAt t i .direction) (trainPlanAt t i .length)
   -- No two trains start on one segment.
   pub starts : (i j : ℕ) → TrainOf t i → TrainOf t j → onRoute t i 1 ≡ onRoute t j 1 → i ≡ j
 
 -- The tests of a number of a segment or box, and over all segments, boxes and trains.
-segment-iff : (t : Table) (s : ℕ) → (outside (t .n) s ≡ false) ↔ SegmentOf t s
-segment-iff t s = simp outside-false-iff (omega arith)
+segment-iff : (n s : ℕ) → (outside n s ≡ false) ↔ SegmentOf n s
+segment-iff n s = simp outside-false-iff (omega arith)
 
-box-iff : (t : Table) (b : ℕ) → (outside (t .m) b ≡ false) ↔ BoxOf t b
-box-iff t b = simp outside-false-iff (omega arith)
+box-iff : (m b : ℕ) → (outside m b ≡ false) ↔ BoxOf m b
+box-iff m b = simp outside-false-iff (omega arith)
 
-any-segment-iff : (t : Table) (f : ℕ → Bool) → (anyOf (t .n) f ≡ false) ↔ ((s : ℕ) → SegmentOf t s → f s ≡ false)
+any-segment-iff : (t : Table) (f : ℕ → Bool) → (anyOf (t .n) f ≡ false) ↔ ((s : ℕ) → SegmentOf (t .n) s → f s ≡ false)
 any-segment-iff t f = simp any-false-iff (λ e s h. e s (h .low) (h .high), λ e s l h. e s (omega arith))
 
-pub any-box-iff : (t : Table) (f : ℕ → Bool) → (anyOf (t .m) f ≡ false) ↔ ((b : ℕ) → BoxOf t b → f b ≡ false)
+pub any-box-iff : (t : Table) (f : ℕ → Bool) → (anyOf (t .m) f ≡ false) ↔ ((b : ℕ) → BoxOf (t .m) b → f b ≡ false)
 any-box-iff t f = simp any-false-iff (λ e b h. e b (h .low) (h .high), λ e b l h. e b (omega arith))
 
 pub any-train-iff : (t : Table) (f : ℕ → Bool) → (anyOf (t .k) f ≡ false) ↔ ((i : ℕ) → TrainOf t i → f i ≡ false)
 any-train-iff t f = simp any-false-iff (λ e i h. e i (h .low) (h .high), λ e i l h. e i (omega arith))
 
 -- What holds of A ends and of B ends holds of the ends of every direction.
-each-end : (t : Table) (P : (ℕ → ℕ) → Type 0) → P (λ s. endA t s) → P (λ s. endB t s) → (d : ℕ) → P (λ s. nearBox t d s)
+each-end : (t : Track) (P : (ℕ → ℕ) → Type 0) → P (t .endA) → P (t .endB) → (d : ℕ) → P (λ s. nearBox t d s)
 unfolding nearBox
 each-end t P a b zero = a
 each-end t P a b (suc d) = rw eqb·suc-zero b
@@ -129,18 +130,18 @@ abbrev pub back : ℕ → ℕ
 back zero = 1
 back (suc d) = 0
 
-pub far-back : (t : Table) (d s : ℕ) → farBox t d s ≡ nearBox t (back d) s
+pub far-back : (t : Track) (d s : ℕ) → farBox t d s ≡ nearBox t (back d) s
 unfolding farBox nearBox
 far-back t zero s = refl
 far-back t (suc d) s = rw eqb·suc-zero
 
-pub near-back : (t : Table) (d s : ℕ) → nearBox t d s ≡ farBox t (back d) s
+pub near-back : (t : Track) (d s : ℕ) → nearBox t d s ≡ farBox t (back d) s
 unfolding farBox nearBox
 near-back t zero s = refl
 near-back t (suc d) s = rw eqb·suc-zero
 
 -- Each end of a segment is its near or its far end for a train of direction d.
-pub either-end : (t : Table) (s d e : ℕ) → (nearBox t d s ≡ nearBox t e s) ⊎ (farBox t d s ≡ nearBox t e s)
+pub either-end : (t : Track) (s d e : ℕ) → (nearBox t d s ≡ nearBox t e s) ⊎ (farBox t d s ≡ nearBox t e s)
 unfolding nearBox farBox
 either-end t s zero zero = inl refl
 either-end t s zero (suc e) = inr (simp eqb·suc-zero)
@@ -153,40 +154,40 @@ unfolding limitsFault
 limits-iff n m k = simp (facts, outside-false-iff) (omega arith)
 
 -- Code 6.
-ends-iff : (t : Table) (s : ℕ) → (endsFault t s ≡ false) ↔ Ends t s
+ends-iff : (m : ℕ) (t : Track) (s : ℕ) → (endsFault m t s ≡ false) ↔ Ends m t s
 unfolding endsFault nearBox farBox
-ends-iff t s =
+ends-iff m t s =
     simp (facts, box-iff) (
-      λ e. record { box = each-end t (λ f. BoxOf t (f s)) (e .0 .0) (e .0 .1); differ = differ e.1 },
+      λ e. record { box = each-end t (λ f. BoxOf m (f s)) (e .0 .0) (e .0 .1); differ = differ e.1 },
       λ h. ((h .box 0, h .box 1), h .differ 0),
     )
   where
-    differ : endA t s ≢ endB t s → (d : ℕ) → nearBox t d s ≢ farBox t d s
+    differ : t .endA s ≢ t .endB s → (d : ℕ) → nearBox t d s ≢ farBox t d s
     differ h zero = h
     differ h (suc d) = rw eqb·suc-zero (Ne·symm h)
 
 -- Code 7: a place of a box.
-use-iff : (t : Table) (case : Type 0) (needed : Bool) (s : ℕ) → ((needed ≡ true) ↔ case)
-    → (placeFault (t .n) needed s ≡ false) ↔ UsedIf t case s
+use-iff : (n : ℕ) (case : Type 0) (needed : Bool) (s : ℕ) → ((needed ≡ true) ↔ case)
+    → (placeFault n needed s ≡ false) ↔ UsedIf n case s
 unfolding placeFault
-use-iff t case true s h =
+use-iff n case true s h =
     simp segment-iff
-    (λ e. record { used = λ _. e; unused = λ n. absurd (n (h .0 refl)) }, λ u. u .used (h .0 refl))
-use-iff t case false s h =
+    (λ e. record { used = λ _. e; unused = λ c. absurd (c (h .0 refl)) }, λ u. u .used (h .0 refl))
+use-iff n case false s h =
     simp facts (
       λ e. record { used = λ c. absurd (false≢true (h .1 c)); unused = λ _. e },
       λ u. u .unused (λ c. false≢true (h .1 c)),
     )
 
 -- Code 7: a box.
-plan-iff : (t : Table) (p : BoxPlan) → (planFault (t .n) p ≡ false) ↔ Planned t p
-unfolding planFault isPoint
-plan-iff t p =
+plan-iff : (n : ℕ) (p : BoxPlan) → (planFault n p ≡ false) ↔ Planned n p
+unfolding planFault branchesFault isPoint
+plan-iff n p =
     simp (
       facts,
       segment-iff,
-      use-iff t (1 ≤ p .kind) (leb 1 (p .kind)) (p .left) (leb-true-iff 1 (p .kind)),
-      use-iff t (p .kind ≡ 2) (eqb (p .kind) 2) (p .right) (eqb-true-iff (p .kind) 2),
+      use-iff n (1 ≤ p .kind) (leb 1 (p .kind)) (p .left) (leb-true-iff 1 (p .kind)),
+      use-iff n (p .kind ≡ 2) (eqb (p .kind) 2) (p .right) (eqb-true-iff (p .kind) 2),
     ) (
       λ e. record { kind = omega arith; stem = e .0 .0 .0 .0 .1; left = e .0 .0 .0 .1; right = e .0 .0 .1; differ = e .0 .1; position = e .1 },
       λ h. (((((omega arith, h .stem), h .left), h .right), h .differ), h .position),
@@ -213,31 +214,30 @@ each-branch p P l r y s (onLeft f e) = rw e at l
 each-branch p P l r y s (onRight f e) = rw e at r
 
 -- Code 8: a segment with an end at a box, a listed segment, a branch, and all that a box lists.
-end-iff : (t : Table) (s b : ℕ) → ((hasEndA t s b || hasEndB t s b) ≡ true) ↔ EndAt t s b
+end-iff : (t : Track) (s b : ℕ) → ((hasEndA t s b || hasEndB t s b) ≡ true) ↔ EndAt t s b
 unfolding hasEndA hasEndB nearBox
 end-iff t s b =
     Iff·trans
-    (or-true-iff (hasEndA t s b) (hasEndB t s b) (eqb-true-iff (endA t s) b) (eqb-true-iff (endB t s) b))
+    (or-true-iff (hasEndA t s b) (hasEndB t s b) (eqb-true-iff (t .endA s) b) (eqb-true-iff (t .endB s) b))
     (⊎-elim (λ e. record { direction = 0; there = e }) (λ e. record { direction = 1; there = e }), λ h. from (h .direction) (h .there))
   where
-    from : (d : ℕ) → nearBox t d s ≡ b → (endA t s ≡ b) ⊎ (endB t s ≡ b)
+    from : (d : ℕ) → nearBox t d s ≡ b → (t .endA s ≡ b) ⊎ (t .endB s ≡ b)
     from zero e = inl e
     from (suc d) e = inr (rw eqb·suc-zero at e)
 
-listed-iff : (t : Table) (b s : ℕ) → (listedFault t b s ≡ false) ↔ (s ≢ 0 → EndAt t s b)
+listed-iff : (t : Track) (b s : ℕ) → (listedFault t b s ≡ false) ↔ (s ≢ 0 → EndAt t s b)
 unfolding listedFault
 listed-iff t b s = simp (facts, end-iff) Iff·rfl
 
-side-iff : (t : Table) (b stem s : ℕ) → (sideFault t b stem s ≡ false) ↔ (s ≢ 0 → (d : ℕ) → nearBox t d stem ≡ b → nearBox t d s ≢ b)
+side-iff : (t : Track) (b stem s : ℕ) → (sideFault t b stem s ≡ false) ↔ (s ≢ 0 → (d : ℕ) → nearBox t d stem ≡ b → nearBox t d s ≢ b)
 unfolding sideFault hasEndA hasEndB nearBox
 side-iff t b stem s =
     simp facts
     (λ e n. each-end t (λ f. f stem ≡ b → f s ≢ b) (e n .0) (e n .1), λ h n. (h n 0, h n 1))
 
-sides-iff : (t : Table) (b : ℕ) → (boxFault t b ≡ false) ↔ Sides t b
+sides-iff : (t : Track) (b : ℕ) (p : BoxPlan) → (boxFault t b p ≡ false) ↔ Sides t b p
 unfolding boxFault
-sides-iff t b =
-    let p = planAt t b in
+sides-iff t b p =
     simp (facts, listed-iff, side-iff) (
       λ ((((stem, left), right), leftSide), rightSide).
           record {
@@ -252,17 +252,18 @@ sides-iff t b =
     )
 
 -- Code 8: the ends of a segment.
-listing-iff : (t : Table) (s : ℕ) → (unlistedFault t s ≡ false) ↔ ((d : ℕ) → lists (planAt t (nearBox t d s)) s ≡ true)
+listing-iff : (t : Track) (plans : List BoxPlan) (s : ℕ)
+    → (unlistedFault t plans s ≡ false) ↔ ((d : ℕ) → lists (nth plans (nearBox t d s) noBoxPlan) s ≡ true)
 unfolding unlistedFault nearBox
-listing-iff t s = simp facts
-    (λ e. each-end t (λ f. lists (planAt t (f s)) s ≡ true) (e .0) (e .1), λ h. (h 0, h 1))
+listing-iff t plans s = simp facts
+    (λ e. each-end t (λ f. lists (nth plans (f s) noBoxPlan) s ≡ true) (e .0) (e .1), λ h. (h 0, h 1))
 
 -- Codes 10 and 11: the shape and the places of a route.
-pub routed-iff : (t : Table) (routes : List ℕ) (i d r : ℕ)
-    → ((routeShapeFault d r ≡ false) × (routeFault t routes i d r ≡ false)) ↔ Routed t routes i d r
+pub routed-iff : (n : ℕ) (t : Track) (routes : List ℕ) (i d r : ℕ)
+    → ((routeShapeFault d r ≡ false) × (routeFault n t routes i d r ≡ false)) ↔ Routed n t routes i d r
 unfolding routeShapeFault routeFault routePlaceFault
-routed-iff t routes i d r =
-    simp (facts, any-false-iff, outside-false-iff 64, segment-iff t) (
+routed-iff n t routes i d r =
+    simp (facts, any-false-iff, outside-false-iff 64, segment-iff n) (
       λ ((direction, (low, high)), places).
           record {
             direction = omega arith;
@@ -283,13 +284,13 @@ routed-iff t routes i d r =
     )
 
 -- Code 12: a train and those before it.
-start-iff : (t : Table) (i : ℕ) → (startFault t i ≡ false) ↔ ((j : ℕ) → 1 ≤ j → j < i → onRoute t i 1 ≢ onRoute t j 1)
+start-iff : (t : Table) (i : ℕ) → (startFault (t .routes) i ≡ false) ↔ ((j : ℕ) → 1 ≤ j → j < i → onRoute t i 1 ≢ onRoute t j 1)
 unfolding startFault
 start-iff t i = simp (facts, any-false-iff) (λ e j l h. e j l (omega arith), λ e j l h. e j l (omega arith))
 
 -- Code 12: where each train starts on another segment than those before it, any two do.
 starts-iff : (t : Table)
-    → ((i : ℕ) → TrainOf t i → startFault t i ≡ false)
+    → ((i : ℕ) → TrainOf t i → startFault (t .routes) i ≡ false)
     ↔ ((i j : ℕ) → TrainOf t i → TrainOf t j → onRoute t i 1 ≡ onRoute t j 1 → i ≡ j)
 starts-iff t =
     simp start-iff (
@@ -302,12 +303,12 @@ starts-iff t =
 faultless
     : (t : Table) → Accepted t → (i : ℕ) → TrainOf t i
     → (routeShapeFault (trainPlanAt t i .direction) (trainPlanAt t i .length) ≡ false)
-    × (routeFault t (t .routes) i (trainPlanAt t i .direction) (trainPlanAt t i .length) ≡ false)
-faultless t a i h = routed-iff t (t .routes) i _ _ .1 (a .routes i h)
+    × (routeFault (t .n) (trackOf t) (t .routes) i (trainPlanAt t i .direction) (trainPlanAt t i .length) ≡ false)
+faultless t a i h = routed-iff (t .n) (trackOf t) (t .routes) i _ _ .1 (a .routes i h)
 
 -- A table is accepted exactly where its code is 0.
 pub accepted-iff : (t : Table) → (tableCode t ≡ 0) ↔ Accepted t
-unfolding tableCode headRows conditionRows networkRows placingRows
+unfolding tableCode partsCode partRows headRows networkRows placingRows planShapeFault planRouteFault planAt trainPlanAt
 accepted-iff t =
     simp
     (facts, first-zero-iff, first-none, any-segment-iff, any-box-iff, any-train-iff, limits-iff, ends-iff, plan-iff, sides-iff, listing-iff, no-loop-iff) (
@@ -320,7 +321,7 @@ accepted-iff t =
             sides = sides;
             listed = λ d s h. listed s h d;
             noLoop = noLoop;
-            routes = λ i h. routed-iff t (t .routes) i _ _ .0 (shapes i h, routes i h);
+            routes = λ i h. routed-iff (t .n) (trackOf t) (t .routes) i _ _ .0 (shapes i h, routes i h);
             starts = starts-iff t .0 starts;
           },
       λ a.

@@ -8,7 +8,7 @@ use native.Mathlib.Decide.{ℕ-discrete, decLe}
 use native.Mathlib.Omega.{arith}
 use Rattle.rules.specs.declared.BoxPlan.{BoxPlan}
 use Rattle.rules.specs.declared.Table.{Table}
-use Rattle.rules.specs.Track.{planAt, isPoint, positionFits, nearBox, farBox, samePair, joins}
+use Rattle.rules.specs.Track.{planAt, isPoint, positionFits, nearBox, farBox, samePair, joins, trackOf}
 use Rattle.rules.specs.Loop.{SegmentOf}
 use Rattle.rules.specs.Network.{lists}
 use Rattle.rules.specs.Steps.{positionFor}
@@ -73,26 +73,26 @@ position-fits p s x e = rw e (either (joins p 1 s x))
     either false = refl
 
 -- A branch is there at a box of its kind: on the left at links and points, on the right at points.
-branch-kind : {t : Table} {p : BoxPlan} {y s : ℕ} → Planned t p → SegmentOf t s → Branch p y s → (1 ≤ y) × (y ≤ p .kind)
+branch-kind : {n : ℕ} {p : BoxPlan} {y s : ℕ} → Planned n p → SegmentOf n s → Branch p y s → (1 ≤ y) × (y ≤ p .kind)
 branch-kind {p} h hs (onLeft f e) =
     elim (decLe 1 (p .kind)) [ yes k ↦ omega arith | no k ↦ let z = h .left .unused k in absurd (omega arith) ]
 branch-kind {p} h hs (onRight f e) =
     elim (ℕ-discrete (p .kind) 2) [ yes k ↦ omega arith | no k ↦ let z = h .right .unused k in absurd (omega arith) ]
 
 -- A segment is not both the left and the right of a box, so one position leads to it.
-one-side : {t : Table} {p : BoxPlan} {s : ℕ} → Planned t p → SegmentOf t s → p .left ≡ s → p .right ≡ s → ⊥
+one-side : {n : ℕ} {p : BoxPlan} {s : ℕ} → Planned n p → SegmentOf n s → p .left ≡ s → p .right ≡ s → ⊥
 one-side h hs e f =
     let k = branch-kind {y = 2} h hs (onRight refl f) in
     h .differ (omega arith) (e ∙ sym f)
 
-branch-once : {t : Table} {p : BoxPlan} {y z s : ℕ} → Planned t p → SegmentOf t s → Branch p y s → Branch p z s → y ≡ z
+branch-once : {n : ℕ} {p : BoxPlan} {y z s : ℕ} → Planned n p → SegmentOf n s → Branch p y s → Branch p z s → y ≡ z
 branch-once h hs (onLeft f e) (onLeft g k) = f ∙ sym g
 branch-once h hs (onLeft f e) (onRight g k) = absurd (one-side h hs e k)
 branch-once h hs (onRight f e) (onLeft g k) = absurd (one-side h hs k e)
 branch-once h hs (onRight f e) (onRight g k) = f ∙ sym g
 
 -- So only a link or a point joins two segments, and a link only at 1.
-joint-kind : {t : Table} {p : BoxPlan} {y s x : ℕ} → Planned t p → SegmentOf t s → SegmentOf t x → Joint p y s x
+joint-kind : {n : ℕ} {p : BoxPlan} {y s x : ℕ} → Planned n p → SegmentOf n s → SegmentOf n x → Joint p y s x
     → (1 ≤ y) × (y ≤ p .kind)
 joint-kind h hs hx (fromStem e r) = branch-kind h hx r
 joint-kind h hs hx (toStem e r) = branch-kind h hs r
@@ -104,16 +104,16 @@ joint-stem (toStem e r) = inr e
 
 -- The box at the far end of a segment, as at the near end, is one of the table and lists the segment.
 module _ {t : Table} (a : Accepted t) where
-  pub far-box : (d s : ℕ) → SegmentOf t s → BoxOf t (farBox t d s)
+  pub far-box : (d s : ℕ) → SegmentOf (t .n) s → BoxOf (t .m) (farBox (trackOf t) d s)
   far-box d s h = rw far-back (a .ends s h .box (back d))
 
-  pub far-listed : (d s : ℕ) → SegmentOf t s → lists (planAt t (farBox t d s)) s ≡ true
+  pub far-listed : (d s : ℕ) → SegmentOf (t .n) s → lists (planAt t (farBox (trackOf t) d s)) s ≡ true
   far-listed d s h = rw far-back (a .listed (back d) s h)
 
 -- A box of an accepted table.
-module _ {t : Table} (a : Accepted t) {b : ℕ} (box : BoxOf t b) where
+module _ {t : Table} (a : Accepted t) {b : ℕ} (box : BoxOf (t .m) b) where
   -- Its stem comes to it by one of its ends.
-  stem-end : EndAt t (planAt t b .stem) b
+  stem-end : EndAt (trackOf t) (planAt t b .stem) b
   stem-end =
       let stem = a .plans b box .stem in
       a .sides b box .ends _ (lists-iff _ _ .1 (inl refl)) (omega arith)
@@ -126,26 +126,26 @@ module _ {t : Table} (a : Accepted t) {b : ℕ} (box : BoxOf t b) where
       a .sides b box .opposite y s r (omega arith) (stem-end .direction) there (rw e at there)
 
   -- The stem is on the other side than a branch: for a train that leaves the box on the branch, the stem lies behind.
-  stem-far : (y s d : ℕ) → SegmentOf t s → Branch (planAt t b) y s → nearBox t d s ≡ b → farBox t d (planAt t b .stem) ≡ b
+  stem-far : (y s d : ℕ) → SegmentOf (t .n) s → Branch (planAt t b) y s → nearBox (trackOf t) d s ≡ b → farBox (trackOf t) d (planAt t b .stem) ≡ b
   stem-far y s d hs r e =
       ⊎-elim
       (λ f. absurd (a .sides b box .opposite y s r (omega arith) d (f ∙ stem-end .there) e))
       (λ f. f ∙ stem-end .there)
-      (either-end t _ d (stem-end .direction))
+      (either-end (trackOf t) _ d (stem-end .direction))
 
   -- The same for a train that comes to the box on the branch.
-  stem-near : (y s d : ℕ) → SegmentOf t s → Branch (planAt t b) y s → farBox t d s ≡ b → nearBox t d (planAt t b .stem) ≡ b
-  stem-near y s d hs r e = near-back t d _ ∙ stem-far y s (back d) hs r (sym (far-back t d s) ∙ e)
+  stem-near : (y s d : ℕ) → SegmentOf (t .n) s → Branch (planAt t b) y s → farBox (trackOf t) d s ≡ b → nearBox (trackOf t) d (planAt t b .stem) ≡ b
+  stem-near y s d hs r e = near-back (trackOf t) d _ ∙ stem-far y s (back d) hs r (sym (far-back (trackOf t) d s) ∙ e)
 
   -- One position joins two segments.
-  pub joint-once : {y z s x : ℕ} → SegmentOf t s → SegmentOf t x → Joint (planAt t b) y s x → Joint (planAt t b) z s x → y ≡ z
+  pub joint-once : {y z s x : ℕ} → SegmentOf (t .n) s → SegmentOf (t .n) x → Joint (planAt t b) y s x → Joint (planAt t b) z s x → y ≡ z
   joint-once hs hx (fromStem e r) (fromStem f q) = branch-once (a .plans b box) hx r q
   joint-once hs hx (fromStem e r) (toStem f q) = absurd (stem-no-branch q e)
   joint-once hs hx (toStem e r) (fromStem f q) = absurd (stem-no-branch r f)
   joint-once hs hx (toStem e r) (toStem f q) = branch-once (a .plans b box) hs r q
 
   -- Where segment x follows segment s at it, one of them is the stem, and the other a branch.
-  pub joint : (d s x : ℕ) → SegmentOf t s → SegmentOf t x → farBox t d s ≡ b → nearBox t d x ≡ b
+  pub joint : (d s x : ℕ) → SegmentOf (t .n) s → SegmentOf (t .n) x → farBox (trackOf t) d s ≡ b → nearBox (trackOf t) d x ≡ b
       → (y : ℕ) × Joint (planAt t b) y s x
   joint d s x hs hx e f =
       go
@@ -160,17 +160,17 @@ module _ {t : Table} (a : Accepted t) {b : ℕ} (box : BoxOf t b) where
           absurd (a .ends _ (a .plans b box .stem) .differ d (stem-near _ s d hs (r .1) e ∙ sym (stem-far _ x d hx (q .1) f)))
 
   -- The position for them joins them.
-  pub position-joins : (d s x : ℕ) → SegmentOf t s → SegmentOf t x → farBox t d s ≡ b → nearBox t d x ≡ b
+  pub position-joins : (d s x : ℕ) → SegmentOf (t .n) s → SegmentOf (t .n) x → farBox (trackOf t) d s ≡ b → nearBox (trackOf t) d x ≡ b
       → joins (planAt t b) (positionFor (planAt t b) s x) s x ≡ true
   position-joins d s x hs hx e f = joint-position (joint d s x hs hx e f .1)
 
   -- No other position joins two segments than the one for them.
-  pub position-only : (y s x : ℕ) → SegmentOf t s → SegmentOf t x → joins (planAt t b) y s x ≡ true
+  pub position-only : (y s x : ℕ) → SegmentOf (t .n) s → SegmentOf (t .n) x → joins (planAt t b) y s x ≡ true
       → y ≡ positionFor (planAt t b) s x
   position-only y s x hs hx j =
       let h = joins-iff _ y s x .0 j in
       joint-once hs hx h (joins-iff _ _ s x .0 (joint-position h))
 
   -- Where a segment follows another at it, it is no border.
-  pub passed-kind : (d s x : ℕ) → SegmentOf t s → SegmentOf t x → farBox t d s ≡ b → nearBox t d x ≡ b → 1 ≤ planAt t b .kind
+  pub passed-kind : (d s x : ℕ) → SegmentOf (t .n) s → SegmentOf (t .n) x → farBox (trackOf t) d s ≡ b → nearBox (trackOf t) d x ≡ b → 1 ≤ planAt t b .kind
   passed-kind d s x hs hx e f = omega (arith, joint-kind (a .plans b box) hs hx (joint d s x hs hx e f .1))

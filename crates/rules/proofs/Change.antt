@@ -24,16 +24,16 @@ use Rattle.rules.proofs.Sound.{Placed}
 
 -- The box beyond a place of a train's route is one of the table.
 beyond-box : {t : Table} → Accepted t → {routes : List ℕ} {i : ℕ} {r : Train} → Placed t routes i r
-    → (q : ℕ) → 1 ≤ q → q ≤ r .length → BoxOf t (boxBeyond t routes i r q)
+    → (q : ℕ) → 1 ≤ q → q ≤ r .length → BoxOf (t .m) (boxBeyond t routes i r q)
 beyond-box a {r} h q low high = far-box a (r .direction) _ (h .route .segment q low high)
 
 -- So are the box ahead of it, and the box that it passes when it clears its tail.
 pub ahead-box : {t : Table} → Accepted t → {routes : List ℕ} {i : ℕ} {r : Train} → Placed t routes i r
-    → BoxOf t (boxBeyond t routes i r (r .place))
+    → BoxOf (t .m) (boxBeyond t routes i r (r .place))
 ahead-box a {r} h = beyond-box a h (r .place) (omega (arith, h .some, h .tail)) (h .front)
 
 pub passed-box : {t : Table} → Accepted t → {routes : List ℕ} {i : ℕ} {r : Train} → Placed t routes i r
-    → BoxOf t (boxBeyond t routes i r (r .place + 1 - r .covered))
+    → BoxOf (t .m) (boxBeyond t routes i r (r .place + 1 - r .covered))
 passed-box a {r} h = beyond-box a h (r .place + 1 - r .covered) (omega (arith, h .tail)) (omega (arith, h .front, h .some))
 
 -- A line without messages on which trains and boxes fit together.
@@ -96,7 +96,7 @@ pub record Change (a : Line) (i : ℕ) (r : Train) (b : ℕ) (x : SwitchBox) : T
       → CrossesAt (a .table) (a .routes) i r q c
 
 module _ {a : Line} (h : Steady a) {i : ℕ} (k : TrainOf (a .table) i) {r : Train} {b : ℕ}
-    (kb : BoxOf (a .table) b) {x : SwitchBox} (g : Change a i r b x) where
+    (kb : BoxOf (a .table .m) b) {x : SwitchBox} (g : Change a i r b x) where
   abbrev after : Line
   after = put a i r b x
 
@@ -198,7 +198,7 @@ module _ {a : Line} (h : Steady a) {i : ℕ} (k : TrainOf (a .table) i) where
   pub fits : (c : ℕ) → Fits (a .table) (a .routes) i (trainAt a i) c (boxAt a c)
   fits = h .fitting .fits i k
 
-  pub on-route : (q : ℕ) → 1 ≤ q → q ≤ trainAt a i .length → SegmentOf (a .table) (routeAt (a .routes) i q)
+  pub on-route : (q : ℕ) → 1 ≤ q → q ≤ trainAt a i .length → SegmentOf (a .table .n) (routeAt (a .routes) i q)
   on-route = h .placed i k .route .segment
 
   pub front-low : 1 ≤ trainAt a i .place

@@ -12,7 +12,7 @@ use Rattle.rules.specs.declared.Train.{Train}
 use Rattle.rules.specs.declared.Line.{Line}
 use Rattle.rules.specs.Rows.{first}
 use Rattle.rules.specs.Track.{planAt, routeAt}
-use Rattle.rules.specs.Line.{aroundTrain, around, boxAt, trainAt, holderOf, setHolder}
+use Rattle.rules.specs.Line.{aroundOn, around, boxAt, trainAt, holderOf, setHolder}
 use Rattle.rules.specs.Steps.{clearRows, sensed, cleared, released}
 use Rattle.rules.specs.Safety.{TrainOf, Covers, placeIn}
 use Rattle.rules.specs.Invariant.{boxBeyond, CrossesAt, Needs, ahead, crossed, nearRecorded, farRecorded, NeedsLock, crossedPoint, lockRecorded, UsesLock, Fitting}
@@ -167,7 +167,7 @@ module _ {a : Line} (h : Steady a) {i : ℕ} (k : TrainOf (a .table) i) where
 
   -- Where the row of codes stops nothing.
   pub clear-fits : first (clearRows r) ≡ 0 → Fitting (afterClear a i)
-  unfolding around aroundTrain
+  unfolding around aroundOn
   clear-fits e =
       let two = clear-iff r .0 e in
       let second : r .place + 2 - r .covered ≡ r .place + 1 - r .covered + 1 = omega (arith, h .placed i k .tail) in

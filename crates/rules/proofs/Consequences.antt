@@ -15,7 +15,7 @@ use Rattle.rules.specs.declared.Outcome.{Outcome}
 use Rattle.rules.specs.Rows.{_if_, first}
 use Rattle.rules.specs.File.{decode}
 use Rattle.rules.specs.declared.Around.{Around}
-use Rattle.rules.specs.Line.{startLine, aroundTrain, around, boxAt, trainAt, requestBox, messageBox}
+use Rattle.rules.specs.Line.{startLine, aroundOn, around, boxAt, trainAt, requestBox, messageBox}
 use Rattle.rules.specs.Steps.{Step, another, boxRows, step}
 use Rattle.rules.specs.Safety.{TrainOf, reached}
 use Rattle.rules.specs.Invariant.{CrossesAt, crossedPoint, settled, sent, Invariant}
@@ -68,7 +68,7 @@ row-23 v p x (Lock b) e = blocked (only-23 _ _ _ e)
 module _ {a : Line} (h : Steady a) {i : ℕ} (k : TrainOf (a .table) i) where
   -- A train does not cross the box ahead of it.
   ahead-uncrossed : {q b : ℕ} → CrossesAt (a .table) (a .routes) i (trainAt a i) q b → b ≢ around a i .ahead
-  unfolding around aroundTrain
+  unfolding around aroundOn
   ahead-uncrossed {q} c e =
       let place = h .placed i k in
       let once = far-once (h .accepted .noLoop) (place .route) in
@@ -78,7 +78,7 @@ module _ {a : Line} (h : Steady a) {i : ℕ} (k : TrainOf (a .table) i) where
   -- A point ahead of it whose sensor is active is locked for another.
   sensed-locked : {b : ℕ} → boxAt a b .sensor ≡ true → b ≡ around a i .ahead → around a i .point ≡ true
       → another i (boxAt a b .lock) ≡ true
-  unfolding around aroundTrain another
+  unfolding around aroundOn another
   sensed-locked {b} active there point =
       let c = h .fitting .sensedCrossed b active in
       let lock = h .fitting .fits (c .train) (c .known) b .locked (crossedPoint (c .crosses) (rw there point)) in

@@ -10,8 +10,8 @@ use Rattle.rules.specs.declared.Table.{Table}
 use Rattle.rules.specs.declared.Train.{Train}
 use Rattle.rules.specs.declared.Line.{Line}
 use Rattle.rules.specs.Rows.{first}
-use Rattle.rules.specs.Track.{planAt, routeAt, farBox, isPoint}
-use Rattle.rules.specs.Line.{aroundTrain, around, boxAt, trainAt, holderOf}
+use Rattle.rules.specs.Track.{planAt, routeAt, farBox, isPoint, trackOf}
+use Rattle.rules.specs.Line.{aroundOn, around, boxAt, trainAt, holderOf}
 use Rattle.rules.specs.Steps.{enterRows, entered, sensed}
 use Rattle.rules.specs.Safety.{TrainOf, Covers, placeIn, placeOf}
 use Rattle.rules.specs.Invariant.{boxBeyond, CrossesAt, Needs, ahead, crossed, nearRecorded, farRecorded, NeedsLock, crossedPoint, lockRecorded, UsesLock, Fitting}
@@ -95,11 +95,11 @@ module _ {a : Line} (h : Steady a) {i : ℕ} (k : TrainOf (a .table) i) where
     next-empty j kj q w e =
         let d = trainAt a j .direction in
         let holder : ℕ → ℕ = λ b. holderOf (planAt t b) (boxAt a b) asked in
-        let theirs : holder (farBox t d asked) ≡ j = rw e (h .fitting .fits j kj _ .reserved _ (ahead w)) in
+        let theirs : holder (farBox (trackOf t) d asked) ≡ j = rw e (h .fitting .fits j kj _ .reserved _ (ahead w)) in
         ⊎-elim
-        (λ f. sym (fits h k _ .reserved _ (nearRecorded nearHeld)) ∙ ap holder (f ∙ sym (far-back t d asked)) ∙ theirs)
-        (λ f. sym (fits h k _ .reserved _ (farRecorded farHeld)) ∙ ap holder (f ∙ sym (far-back t d asked)) ∙ theirs)
-        (either-end t asked (r .direction) (back d))
+        (λ f. sym (fits h k _ .reserved _ (nearRecorded nearHeld)) ∙ ap holder (f ∙ sym (far-back (trackOf t) d asked)) ∙ theirs)
+        (λ f. sym (fits h k _ .reserved _ (farRecorded farHeld)) ∙ ap holder (f ∙ sym (far-back (trackOf t) d asked)) ∙ theirs)
+        (either-end (trackOf t) asked (r .direction) (back d))
 
     entering : CrossesAt t routes i (entered r) (r .place) box-entered
     unfolding entered
@@ -141,7 +141,7 @@ module _ {a : Line} (h : Steady a) {i : ℕ} (k : TrainOf (a .table) i) where
 
   -- Where the row of codes stops nothing.
   pub enter-fits : first (enterRows (around a i) r) ≡ 0 → Fitting (afterEnter a i)
-  unfolding around aroundTrain
+  unfolding around aroundOn
   enter-fits e =
       let (single, (next, (near, (far, lock)))) = enter-iff (around a i) r .0 e in
       entered-fits next near far lock

@@ -86,7 +86,7 @@ module _ (l : Line) (i : ℕ) (r : Train) (b : ℕ) (x : SwitchBox) where
   unfolding putTrain putBox trainAt
   train-other {j} n = nth-other (l .trains) i j r noTrain n
 
-  box-put : Sized l → BoxOf (l .table) b → boxAt (put l i r b x) b ≡ x
+  box-put : Sized l → BoxOf (l .table .m) b → boxAt (put l i r b x) b ≡ x
   unfolding putTrain putBox boxAt
   box-put h k = let room = h .boxes in nth-set (l .boxes) b x noBox (k .low) (omega arith)
 
@@ -106,7 +106,7 @@ module _ (l : Line) (i : ℕ) (r : Train) (b : ℕ) (x : SwitchBox) where
       ]
 
   pub each-box
-      : (P : ℕ → SwitchBox → Type 0) → Sized l → BoxOf (l .table) b → P b x
+      : (P : ℕ → SwitchBox → Type 0) → Sized l → BoxOf (l .table .m) b → P b x
       → ((c : ℕ) → c ≢ b → P c (boxAt l c)) → (c : ℕ) → P c (boxAt (put l i r b x) c)
   each-box P h k this others c =
       elim (ℕ-discrete c b) [

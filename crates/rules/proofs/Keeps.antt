@@ -17,7 +17,7 @@ use Rattle.rules.specs.declared.Outcome.{Outcome}
 use Rattle.rules.specs.Rows.{first}
 use Rattle.rules.specs.Track.{planAt}
 use Rattle.rules.specs.declared.Around.{Around}
-use Rattle.rules.specs.Line.{aroundTrain, around, trainAt, putTrain, putBox}
+use Rattle.rules.specs.Line.{aroundOn, aroundTrain, around, trainAt, putTrain, putBox}
 use Rattle.rules.specs.Steps.{Step, withMessage, recorded, addressRows, entered, cleared}
 use Rattle.rules.specs.Record.{answerCode}
 use Rattle.rules.specs.Safety.{TrainOf}
@@ -66,7 +66,7 @@ record Own (t : Table) (routes : List ℕ) (i : ℕ) (r : Train) : Type 0 where
 
 -- A train and a box put back keep the invariant where each is sound and they fit.
 module _ {l : Line} (h : Invariant l) {i : ℕ} (k : TrainOf (l .table) i) {r : Train} (own : Own (l .table) (l .routes) i r) where
-  put-keeps : {b : ℕ} → BoxOf (l .table) b → {x : SwitchBox} → BoxSound (l .table .k) (planAt (l .table) b) x
+  put-keeps : {b : ℕ} → BoxOf (l .table .m) b → {x : SwitchBox} → BoxSound (l .table .k) (planAt (l .table) b) x
       → Fitting (settled (put l i r b x)) → Invariant (put l i r b x)
   unfolding putTrain putBox around
   put-keeps {b} kb {x} box fits =
@@ -75,7 +75,7 @@ module _ {l : Line} (h : Invariant l) {i : ℕ} (k : TrainOf (l .table) i) {r : 
       each-train l i r b x (Own (l .table) (l .routes)) (sized h) k own
       (λ j kj n. record { placed = good .trains j kj; message = good .messages j kj; unrecorded = h .unrecorded j kj }) in
       let sounds =
-      each-box l i r b x (λ c y. BoxOf (l .table) c → BoxSound (l .table .k) (planAt (l .table) c) y) (sized h) kb (λ _. box)
+      each-box l i r b x (λ c y. BoxOf (l .table .m) c → BoxSound (l .table .k) (planAt (l .table) c) y) (sized h) kb (λ _. box)
       (λ c n. good .boxes c) in
       record {
         boxes = set-length (l .boxes) b x ∙ h .boxes;
@@ -93,7 +93,7 @@ module _ {l : Line} (h : Invariant l) {i : ℕ} (k : TrainOf (l .table) i) {r : 
   train-keeps : Fitting (settled (putTrain l i r)) → Invariant (putTrain l i r)
   train-keeps fits =
       let limits = line-sound h .table .limits in
-      let box : BoxOf (l .table) 1 = omega arith in
+      let box : BoxOf (l .table .m) 1 = omega arith in
       rw (train-alone l i r 1) at (put-keeps box (line-sound h .boxes 1 box) (rw (train-alone l i r 1) fits))
 
 -- A train's own part by its message: nothing is asked of one without.
@@ -189,7 +189,7 @@ module _ {l : Line} (h : Invariant l) (s : Step) where
       (rw (hear-settled w) (h .fitting))
 
   enters-keeps : Enters l s → Invariant (afterEnter l i)
-  unfolding around aroundTrain entered
+  unfolding around aroundOn entered
   enters-keeps w =
       let box = ahead-box (line-sound h .table) (line-sound h .trains i (w .train)) in
       put-keeps h (w .train) (own-idle _ _ i entering (enter-idle h w)) box (sensed-sound (line-sound h .boxes _ box))
@@ -202,7 +202,7 @@ module _ {l : Line} (h : Invariant l) (s : Step) where
           record { route = place .route; some = omega arith; most = omega arith; tail = omega (arith, place .tail); front = omega arith }
 
   clears-keeps : Clears l s → Invariant (afterClear l i)
-  unfolding around aroundTrain cleared
+  unfolding around aroundOn cleared
   clears-keeps w =
       let box = passed-box (line-sound h .table) (line-sound h .trains i (w .train)) in
       put-keeps h (w .train) clearing box (released-sound (line-sound h .boxes _ box) _ _)

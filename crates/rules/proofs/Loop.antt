@@ -10,9 +10,8 @@ use mathlib.Core.List.{List, [], _∷_, List·Memᴰ, List·Memᴰ·head, List·
 use native.Mathlib.Decide.{ℕ-discrete}
 use native.Mathlib.Omega.{arith}
 use lib.ListN.{length}
-use Rattle.rules.specs.declared.Table.{Table}
 use Rattle.rules.specs.Rows.{listOf, listFrom}
-use Rattle.rules.specs.Track.{endA, endB, farBox, nearBox, follows}
+use Rattle.rules.specs.Track.{Track, farBox, nearBox, follows}
 use Rattle.rules.specs.Loop.{SegmentOf, Chain, single, more, Loop, anyBefore, following, chainEnds, isEmpty, hasLoop}
 use Rattle.rules.proofs.Tests.{or-right, not-passed, or-true-iff, eqb-true-iff}
 use Rattle.rules.proofs.Rows.{from-length}
@@ -83,7 +82,22 @@ keep-tail : (b : Bool) (s : ℕ) {x : ℕ} {l : List ℕ} → x ∈ l → x ∈ 
 keep-tail true s m = List·Memᴰ·tail m
 keep-tail false s m = m
 
-module _ (t : Table) where
+module _ (t : Track) where
+  -- One segment follows another: the far end of one and the near end of the other are at one box; in direction 0, the B end of
+  -- one and the A end of the other.
+  pub follows-iff : (d s x : ℕ) → (follows t d s x ≡ true) ↔ (farBox t d s ≡ nearBox t d x)
+  unfolding follows
+  follows-iff d s x = eqb-true-iff (farBox t d s) (nearBox t d x)
+
+  follows-box : (s x : ℕ) → follows t 0 s x ≡ true → t .endB s ≡ t .endA x
+  unfolding farBox nearBox
+  follows-box s x = follows-iff 0 s x .0
+
+  pub box-follows : (s x : ℕ) → t .endB s ≡ t .endA x → follows t 0 s x ≡ true
+  unfolding farBox nearBox
+  box-follows s x = follows-iff 0 s x .1
+
+module _ (n : ℕ) (t : Track) where
   -- A segment of a list that comes before x.
   record Before (l : List ℕ) (x : ℕ) : Type 0 where
     segment : ℕ
@@ -127,25 +141,25 @@ module _ (t : Table) where
       ]
 
   -- Every round keeps segments of the table only, and before the first round all of them are there.
-  ends-segment : (r s : ℕ) → s ∈ chainEnds t r → SegmentOf t s
+  ends-segment : (r s : ℕ) → s ∈ chainEnds n t r → SegmentOf n s
   unfolding chainEnds listOf
-  ends-segment zero s m = let h = has-from (t .n) 1 s m in record { low = h .0; high = omega arith }
+  ends-segment zero s m = let h = has-from n 1 s m in record { low = h .0; high = omega arith }
   ends-segment (suc r) s m = ends-segment r s (has-following _ _ s m .0)
 
-  pub segment-ends : (s : ℕ) → SegmentOf t s → s ∈ chainEnds t zero
+  pub segment-ends : (s : ℕ) → SegmentOf n s → s ∈ chainEnds n t zero
   unfolding chainEnds listOf
-  segment-ends s h = from-has (t .n) 1 s (h .low) (omega arith)
+  segment-ends s h = from-has n 1 s (h .low) (omega arith)
 
   -- The part of a chain up to one of its segments.
-  up-to : {s z p : ℕ} {l : List ℕ} → Chain t s l z → p ∈ l → (k : List ℕ) × Chain t s k p
+  up-to : {s z p : ℕ} {l : List ℕ} → Chain n t s l z → p ∈ l → (k : List ℕ) × Chain n t s k p
   up-to (single {s = s} h) m = (s ∷ [], rw (List·Memᴰ·eq-of-singleton m) (single h))
   up-to (more {s = s} h f c) (List·Memᴰ·head e) = (s ∷ [], rw e (single h))
   up-to (more {s = s} h f c) (List·Memᴰ·tail m) = let r = up-to c m in (s ∷ r .0, more h f (r .1))
 
   -- A loop is found by walking back from the first segment x of a chain, if r rounds keep x and the segments that the chain
   -- does not pass are fewer than r.
-  walk-back : (r : ℕ) (free : List ℕ) {x z : ℕ} {l : List ℕ} → Chain t x l z
-      → ((s : ℕ) → SegmentOf t s → (s ∈ l) ⊎ (s ∈ free)) → length free < r → x ∈ chainEnds t r → Loop t
+  walk-back : (r : ℕ) (free : List ℕ) {x z : ℕ} {l : List ℕ} → Chain n t x l z
+      → ((s : ℕ) → SegmentOf n s → (s ∈ l) ⊎ (s ∈ free)) → length free < r → x ∈ chainEnds n t r → Loop n t
   unfolding chainEnds
   walk-back zero free c all h m = absurd (omega arith)
   walk-back (suc r) free {x} c all h m =
@@ -161,23 +175,23 @@ module _ (t : Table) where
       ]
 
   -- Where the test says yes, there is a loop.
-  loop-found : hasLoop t ≡ true → Loop t
+  loop-found : hasLoop n t ≡ true → Loop n t
   unfolding hasLoop chainEnds listOf
   loop-found e =
       let (s, m) = member _ e in
-      let h = ends-segment (t .n) s m in
+      let h = ends-segment n s m in
       let w = without (segment-ends s h) in
-      let fewer : length (w .rest) < t .n = omega (arith, w .shorter, from-length (λ s. s) (t .n) 1) in
-      walk-back (t .n) (w .rest) (single h) (λ y g. move w (inr (segment-ends y g))) fewer m
+      let fewer : length (w .rest) < n = omega (arith, w .shorter, from-length (λ s. s) n 1) in
+      walk-back n (w .rest) (single h) (λ y g. move w (inr (segment-ends y g))) fewer m
 
   -- Each segment of a chain is one of the table, and is the chain's first or comes after one of the chain. The chain's last
   -- is among them. So each segment of a loop comes after one of the loop.
-  chain-segment : {s z x : ℕ} {l : List ℕ} → Chain t s l z → x ∈ l → SegmentOf t x
+  chain-segment : {s z x : ℕ} {l : List ℕ} → Chain n t s l z → x ∈ l → SegmentOf n x
   chain-segment (single h) m = rw (List·Memᴰ·eq-of-singleton m) h
   chain-segment (more h f c) (List·Memᴰ·head e) = rw e h
   chain-segment (more h f c) (List·Memᴰ·tail m) = chain-segment c m
 
-  chain-before : {s z x : ℕ} {l : List ℕ} → Chain t s l z → x ∈ l → (x ≡ s) ⊎ Before l x
+  chain-before : {s z x : ℕ} {l : List ℕ} → Chain n t s l z → x ∈ l → (x ≡ s) ⊎ Before l x
   chain-before (single h) m = inl (List·Memᴰ·eq-of-singleton m)
   chain-before (more h f c) (List·Memᴰ·head e) = inl e
   chain-before (more {s = s} h f c) (List·Memᴰ·tail m) =
@@ -186,11 +200,11 @@ module _ (t : Table) where
         | inr b ↦ inr (among (λ s. List·Memᴰ·tail) b)
       ]
 
-  chain-last : {s z : ℕ} {l : List ℕ} → Chain t s l z → z ∈ l
+  chain-last : {s z : ℕ} {l : List ℕ} → Chain n t s l z → z ∈ l
   chain-last (single h) = List·Memᴰ·head refl
   chain-last (more h f c) = List·Memᴰ·tail (chain-last c)
 
-  loop-before : (c : Loop t) {x : ℕ} → x ∈ c .segments → Before (c .segments) x
+  loop-before : (c : Loop n t) {x : ℕ} → x ∈ c .segments → Before (c .segments) x
   loop-before c m =
       elim (chain-before (c .chain) m) [
         | inl e ↦ record { segment = c .last; listed = chain-last (c .chain); before = rw e (c .closed) }
@@ -198,77 +212,58 @@ module _ (t : Table) where
       ]
 
   -- Every round keeps the segments of a loop.
-  loop-ends : (c : Loop t) (r : ℕ) {x : ℕ} → x ∈ c .segments → x ∈ chainEnds t r
+  loop-ends : (c : Loop n t) (r : ℕ) {x : ℕ} → x ∈ c .segments → x ∈ chainEnds n t r
   unfolding chainEnds
   loop-ends c zero {x} m = segment-ends x (chain-segment (c .chain) m)
   loop-ends c (suc r) m =
       following-has _ (loop-ends c r m) (among (λ s. loop-ends c r) (loop-before c m))
 
   -- Where there is a loop, the test says yes.
-  found-loop : Loop t → hasLoop t ≡ true
+  found-loop : Loop n t → hasLoop n t ≡ true
   unfolding hasLoop
-  found-loop c = has-member _ (loop-ends c (t .n) (chain-last (c .chain)))
+  found-loop c = has-member _ (loop-ends c n (chain-last (c .chain)))
 
   -- The loop law: the test says yes exactly where a loop exists.
-  pub loop-law : (hasLoop t ≡ true) ↔ Loop t
+  pub loop-law : (hasLoop n t ≡ true) ↔ Loop n t
   loop-law = (loop-found, found-loop)
 
   -- It says no exactly where none exists.
-  pub no-loop-iff : (hasLoop t ≡ false) ↔ (¬ Loop t)
-  no-loop-iff = (λ e c. false≢true (sym e ∙ found-loop c), λ h. not-passed (hasLoop t) (λ e. h (loop-found e)))
-
-  -- One segment follows another: the far end of one and the near end of the other are at one box; in direction 0, the B end of
-  -- one and the A end of the other.
-  pub follows-iff : (d s x : ℕ) → (follows t d s x ≡ true) ↔ (farBox t d s ≡ nearBox t d x)
-  unfolding follows
-  follows-iff d s x = eqb-true-iff (farBox t d s) (nearBox t d x)
-
-  follows-box : (s x : ℕ) → follows t 0 s x ≡ true → endB t s ≡ endA t x
-  unfolding farBox nearBox
-  follows-box s x = follows-iff 0 s x .0
-
-  pub box-follows : (s x : ℕ) → endB t s ≡ endA t x → follows t 0 s x ≡ true
-  unfolding farBox nearBox
-  box-follows s x = follows-iff 0 s x .1
+  pub no-loop-iff : (hasLoop n t ≡ false) ↔ (¬ Loop n t)
+  no-loop-iff = (λ e c. false≢true (sym e ∙ found-loop c), λ h. not-passed (hasLoop n t) (λ e. h (loop-found e)))
 
   -- A segment that follows the end of a chain of r + 1 segments ends a chain of one more; the test says yes to one of n + 1.
-  pub ends-more : (r s x : ℕ) → s ∈ chainEnds t r → SegmentOf t x → follows t 0 s x ≡ true → x ∈ chainEnds t (suc r)
+  pub ends-more : (r s x : ℕ) → s ∈ chainEnds n t r → SegmentOf n x → follows t 0 s x ≡ true → x ∈ chainEnds n t (suc r)
   unfolding chainEnds
   ends-more zero s x m h f = following-has _ (segment-ends x h) (record { segment = s; listed = m; before = f })
   ends-more (suc r) s x m h f =
       let k = ends-more r s x (has-following _ _ s m .0) h f in
       following-has _ k (record { segment = s; listed = m; before = f })
 
-  pub ends-loop : (s : ℕ) → s ∈ chainEnds t (t .n) → hasLoop t ≡ true
+  pub ends-loop : (s : ℕ) → s ∈ chainEnds n t n → hasLoop n t ≡ true
   unfolding hasLoop
   ends-loop s m = has-member _ m
 
   -- Where boxes have ranks that rise along every segment, they rise along every chain, and there is no loop.
-  module _ (rank : ℕ → ℕ) (rises : (s : ℕ) → SegmentOf t s → rank (endA t s) < rank (endB t s)) where
-    chain-rises : {s z : ℕ} {l : List ℕ} → Chain t s l z → rank (endA t s) < rank (endB t z)
+  module _ (rank : ℕ → ℕ) (rises : (s : ℕ) → SegmentOf n s → rank (t .endA s) < rank (t .endB s)) where
+    chain-rises : {s z : ℕ} {l : List ℕ} → Chain n t s l z → rank (t .endA s) < rank (t .endB z)
     chain-rises (single {s = s} h) = rises s h
     chain-rises (more {s = s} {x = x} h f c) =
-        omega (arith, rises s h, ap rank (follows-box s x f), chain-rises c)
+        omega (arith, rises s h, ap rank (follows-box t s x f), chain-rises c)
 
-    pub rising-no-loop : hasLoop t ≡ false
+    pub rising-no-loop : hasLoop n t ≡ false
     rising-no-loop =
         no-loop-iff .1 (λ c.
-        omega (arith, chain-rises (c .chain), ap rank (follows-box (c .last) (c .first) (c .closed))))
+        omega (arith, chain-rises (c .chain), ap rank (follows-box t (c .last) (c .first) (c .closed))))
 
--- Two tables with as many segments, which follow each other alike: a loop of one is a loop of the other.
-module _ (t u : Table) (number : u .n ≡ t .n)
-    (alike : (s x : ℕ) → SegmentOf t s → SegmentOf t x → follows u 0 s x ≡ follows t 0 s x) where
-  segment-alike : {s : ℕ} → SegmentOf u s → SegmentOf t s
-  segment-alike h = record { low = h .low; high = omega (arith, h .high) }
-
-  chain-alike : {s z : ℕ} {l : List ℕ} → Chain u s l z → Chain t s l z × SegmentOf t s × SegmentOf t z
-  chain-alike (single h) = let k = segment-alike h in (single k, k, k)
+-- Two tracks of n segments, which follow each other alike: a loop of one is a loop of the other.
+module _ (n : ℕ) (t u : Track) (alike : (s x : ℕ) → SegmentOf n s → SegmentOf n x → follows u 0 s x ≡ follows t 0 s x) where
+  chain-alike : {s w : ℕ} {l : List ℕ} → Chain n u s l w → Chain n t s l w × SegmentOf n s × SegmentOf n w
+  chain-alike (single h) = (single h, h, h)
   chain-alike (more {s = s} {x = x} h f c) =
       let (d, first, last) = chain-alike c in
-      let k = segment-alike h in
-      (more k (rw (alike s x k first) at f) d, k, last)
+      (more h (rw (alike s x h first) at f) d, h, last)
 
-  loop-alike : Loop u → Loop t
+  loop-alike : Loop n u → Loop n t
   loop-alike c =
       let (chain, first, last) = chain-alike (c .chain) in
       record {
@@ -280,16 +275,12 @@ module _ (t u : Table) (number : u .n ≡ t .n)
       }
 
 -- So the test says the same of both.
-pub loop-same : (t u : Table) → u .n ≡ t .n → ((s x : ℕ) → SegmentOf t s → SegmentOf t x → follows u 0 s x ≡ follows t 0 s x)
-    → hasLoop u ≡ hasLoop t
-loop-same t u number alike =
+pub loop-same : (n : ℕ) (t u : Track) → ((s x : ℕ) → SegmentOf n s → SegmentOf n x → follows u 0 s x ≡ follows t 0 s x)
+    → hasLoop n u ≡ hasLoop n t
+loop-same n t u alike =
     true-alike _ _
-    (λ e. found-loop t (loop-alike t u number alike (loop-found u e)))
-    (λ e.
-    found-loop u
-    (loop-alike u t (sym number)
-    (λ s x h k. sym (alike s x (segment-alike t u number alike h) (segment-alike t u number alike k)))
-    (loop-found t e)))
+    (λ e. found-loop n t (loop-alike n t u alike (loop-found n u e)))
+    (λ e. found-loop n u (loop-alike n u t (λ s x h k. sym (alike s x h k)) (loop-found n t e)))
   where
     true-alike : (a b : Bool) → (a ≡ true → b ≡ true) → (b ≡ true → a ≡ true) → a ≡ b
     true-alike true b h k = sym (h refl)

@@ -15,7 +15,7 @@ use Rattle.rules.specs.declared.Line.{Line}
 use Rattle.rules.specs.Rows.{first}
 use Rattle.rules.specs.Track.{planAt, routeAt, isPoint}
 use Rattle.rules.specs.Network.{lists}
-use Rattle.rules.specs.Line.{requestBox, aroundTrain, around, boxAt, trainAt, holderOf, setHolder}
+use Rattle.rules.specs.Line.{requestBox, aroundOn, aroundTrain, around, boxAt, trainAt, holderOf, setHolder}
 use Rattle.rules.specs.Steps.{addressed, addressRows, boxRows, another, positionFor, withHolding, granted, sensed}
 use Rattle.rules.specs.Safety.{TrainOf}
 use Rattle.rules.specs.Invariant.{boxBeyond, Needs, ahead, crossed, nearRecorded, farRecorded, NeedsLock, crossedPoint, lockRecorded, UsesLock, Fitting}
@@ -32,8 +32,8 @@ use Rattle.rules.proofs.Change.{ahead-box, Steady, no-more, uses-by, ch
 -- The box of a request is one of the table. A reservation's box lists next.
 module _ {t : Table} (a : Accepted t) {routes : List ℕ} {i : ℕ} {r : Train} (h : Placed t routes i r) where
   reserve-box : (b : ℕ) → r .place < r .length → addressed (aroundTrain t routes i r) (Reserve b) ≡ true
-      → BoxOf t b × (lists (planAt t b) (routeAt routes i (r .place + 1)) ≡ true)
-  unfolding addressed aroundTrain
+      → BoxOf (t .m) b × (lists (planAt t b) (routeAt routes i (r .place + 1)) ≡ true)
+  unfolding addressed aroundOn
   reserve-box b next at =
       let segment = h .route .segment (r .place + 1) (omega arith) (omega arith) in
       ⊎-elim
@@ -41,8 +41,8 @@ module _ {t : Table} (a : Accepted t) {routes : List ℕ} {i : ℕ} {r : Train} 
       (λ e. rw e (far-box a (r .direction) _ segment, far-listed a (r .direction) _ segment))
       (or-true-iff _ _ (eqb-true-iff b _) (eqb-true-iff b _) .0 at)
 
-  pub request-box : (q : Request) → first (addressRows (aroundTrain t routes i r) r q) ≡ 0 → BoxOf t (requestBox q)
-  unfolding requestBox aroundTrain
+  pub request-box : (q : Request) → first (addressRows (aroundTrain t routes i r) r q) ≡ 0 → BoxOf (t .m) (requestBox q)
+  unfolding requestBox aroundOn
   request-box (Reserve b) e =
       let (next, at) = address-iff (aroundTrain t routes i r) r (Reserve b) .0 e in
       reserve-box b next at .0
@@ -75,7 +75,7 @@ module _ {a : Line} (h : Steady a) {i : ℕ} (k : TrainOf (a .table) i) where
     abbrev reserving : SwitchBox
     reserving = setHolder (planAt t b) (boxAt a b) asked i
 
-    asked-box : BoxOf t b × (lists (planAt t b) asked ≡ true)
+    asked-box : BoxOf (t .m) b × (lists (planAt t b) asked ≡ true)
     unfolding around
     asked-box = reserve-box (h .accepted) (h .placed i k) b next at
 
@@ -89,7 +89,7 @@ module _ {a : Line} (h : Steady a) {i : ℕ} (k : TrainOf (a .table) i) where
 
     -- What the train needs now is next here, or it needed it before.
     needs-reserver : {c s : ℕ} → Needs t routes i reserver c s → ((c ≡ b) × (s ≡ asked)) ⊎ Needs t routes i r c s
-    unfolding withHolding around aroundTrain
+    unfolding withHolding around aroundOn
     needs-reserver (ahead w) = inr (ahead w)
     needs-reserver (crossed w) = inr (crossed w)
     needs-reserver (nearRecorded e) =
@@ -178,7 +178,7 @@ module _ {a : Line} (h : Steady a) {i : ℕ} (k : TrainOf (a .table) i) where
         }
 
     lock-fits : Fitting (put a i locker point-ahead locking)
-    unfolding withHolding around aroundTrain granted holderOf
+    unfolding withHolding around aroundOn granted holderOf
     lock-fits =
         change-fits h k (ahead-box (h .accepted) (h .placed i k))
         {x = locking} record {
@@ -213,7 +213,7 @@ module _ {a : Line} (h : Steady a) {i : ℕ} (k : TrainOf (a .table) i) where
       : (q : Request) → first (addressRows (around a i) r q) ≡ 0
       → first (boxRows (around a i) (planAt t (requestBox q)) (boxAt a (requestBox q)) q) ≡ 0
       → Fitting (afterRequest a i q)
-  unfolding boxRows requestBox granted around aroundTrain
+  unfolding boxRows requestBox granted around aroundOn
   request-fits (Reserve b) e f =
       let (next, at) = address-iff (around a i) r (Reserve b) .0 e in
       let (free, none) = simp first-zero-iff at f in

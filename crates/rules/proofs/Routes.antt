@@ -1,56 +1,55 @@
--- A route of an accepted table passes each segment and each box once.
+-- On a track without a loop a route passes each segment and each box once.
 use Prim.Native.Nat.{ℕ, zero, suc, _+_, _-_, _≤_, _<_}
 use mathlib.Core.Path.{_≡_, sym, _∙_, ap}
 use mathlib.Core.Logic.{⊎-elim, _≢_}
 use mathlib.Core.Bool.{true}
 use mathlib.Core.List.{List, [], _∷_}
 use native.Mathlib.Omega.{arith}
-use Rattle.rules.specs.declared.Table.{Table}
-use Rattle.rules.specs.Track.{routeAt, nearBox, farBox, follows}
+use Rattle.rules.specs.Track.{routeAt, Track, nearBox, farBox, follows}
 use Rattle.rules.specs.Loop.{SegmentOf, Chain, single, more, Loop}
 use Rattle.rules.proofs.Rows.{once}
 use Rattle.rules.proofs.Loop.{follows-iff}
 use Rattle.rules.proofs.Accepted.{Routed, EndAt, back, far-back, near-back, either-end}
 
 -- Segments g 0 .. g k, each following the one before in direction 0, are a chain.
-chain-of : (t : Table) (g : ℕ → ℕ) (k : ℕ) → ((j : ℕ) → j ≤ k → SegmentOf t (g j))
-    → ((j : ℕ) → j < k → follows t 0 (g j) (g (suc j)) ≡ true) → (l : List ℕ) × Chain t (g 0) l (g k)
-chain-of t g zero s f = (g 0 ∷ [], single (s 0 (omega arith)))
-chain-of t g (suc k) s f =
-    let (l, c) = chain-of t (λ j. g (suc j)) k (λ j h. s (suc j) (omega arith)) (λ j h. f (suc j) (omega arith)) in
+chain-of : (n : ℕ) (t : Track) (g : ℕ → ℕ) (k : ℕ) → ((j : ℕ) → j ≤ k → SegmentOf n (g j))
+    → ((j : ℕ) → j < k → follows t 0 (g j) (g (suc j)) ≡ true) → (l : List ℕ) × Chain n t (g 0) l (g k)
+chain-of n t g zero s f = (g 0 ∷ [], single (s 0 (omega arith)))
+chain-of n t g (suc k) s f =
+    let (l, c) = chain-of n t (λ j. g (suc j)) k (λ j h. s (suc j) (omega arith)) (λ j h. f (suc j) (omega arith)) in
     (g 0 ∷ l, more (s 0 (omega arith)) (f 0 (omega arith)) c)
 
 -- What follows in one direction is followed in the other.
-follows-back : (t : Table) (d s x : ℕ) → follows t d s x ≡ true → follows t (back d) x s ≡ true
+follows-back : (t : Track) (d s x : ℕ) → follows t d s x ≡ true → follows t (back d) x s ≡ true
 follows-back t d s x f = follows-iff t (back d) x s .1 (cc (near-back t d x, far-back t d s, follows-iff t d s x .0 f))
 
 -- Without a loop, such segments do not come back to the box that they begin at.
-no-return-forth : (t : Table) → ¬ Loop t → (g : ℕ → ℕ) (k : ℕ) → ((j : ℕ) → j ≤ k → SegmentOf t (g j))
+no-return-forth : (n : ℕ) (t : Track) → ¬ Loop n t → (g : ℕ → ℕ) (k : ℕ) → ((j : ℕ) → j ≤ k → SegmentOf n (g j))
     → ((j : ℕ) → j < k → follows t 0 (g j) (g (suc j)) ≡ true) → nearBox t 0 (g 0) ≢ farBox t 0 (g k)
-no-return-forth t n g k s f e =
-    let (l, c) = chain-of t g k s f in
-    n (record { first = g 0; segments = l; last = g k; chain = c; closed = follows-iff t 0 (g k) (g 0) .1 (sym e) })
+no-return-forth n t none g k s f e =
+    let (l, c) = chain-of n t g k s f in
+    none (record { first = g 0; segments = l; last = g k; chain = c; closed = follows-iff t 0 (g k) (g 0) .1 (sym e) })
 
 -- Nor do segments of either direction: those of direction 1 are taken from the last to the first.
-no-return : (t : Table) → ¬ Loop t → (d : ℕ) (g : ℕ → ℕ) (k : ℕ) → ((j : ℕ) → j ≤ k → SegmentOf t (g j))
+no-return : (n : ℕ) (t : Track) → ¬ Loop n t → (d : ℕ) (g : ℕ → ℕ) (k : ℕ) → ((j : ℕ) → j ≤ k → SegmentOf n (g j))
     → ((j : ℕ) → j < k → follows t d (g j) (g (suc j)) ≡ true) → nearBox t d (g 0) ≢ farBox t d (g k)
-no-return t n zero g k s f e = no-return-forth t n g k s f e
-no-return t n (suc d) g k s f e =
+no-return n t none zero g k s f e = no-return-forth n t none g k s f e
+no-return n t none (suc d) g k s f e =
     let first : k - 0 ≡ k = omega arith in
     let last : k - k ≡ 0 = omega arith in
-    no-return-forth t n (λ j. g (k - j)) k (λ j h. s (k - j) (omega arith))
+    no-return-forth n t none (λ j. g (k - j)) k (λ j h. s (k - j) (omega arith))
     (λ j h.
     let next : suc (k - suc j) ≡ k - j = omega arith in
     rw next at (follows-back t (suc d) _ _ (f (k - suc j) (omega arith))))
     (rw (first, last) (cc (far-back t (suc d) (g k), near-back t (suc d) (g 0))))
 
 -- The box between one place of a route and the next.
-pub between : {t : Table} {routes : List ℕ} {i d r : ℕ} → Routed t routes i d r → (p : ℕ) → 1 ≤ p → p < r
+pub between : {n : ℕ} {t : Track} {routes : List ℕ} {i d r : ℕ} → Routed n t routes i d r → (p : ℕ) → 1 ≤ p → p < r
     → farBox t d (routeAt routes i p) ≡ nearBox t d (routeAt routes i (p + 1))
 between {t} {d} h p low high = follows-iff t d _ _ .0 (h .next p low high)
 
--- A train's route, of direction d and length r, in a table without a loop.
-module _ {t : Table} (noLoop : ¬ Loop t) {routes : List ℕ} {i d r : ℕ} (route : Routed t routes i d r) where
+-- A train's route, of direction d and length r, on a track without a loop.
+module _ {n : ℕ} {t : Track} (noLoop : ¬ Loop n t) {routes : List ℕ} {i d r : ℕ} (route : Routed n t routes i d r) where
   -- No box that lies before a place comes after it, or after a later one.
   pub no-way-back : (p q : ℕ) → 1 ≤ p → p ≤ q → q ≤ r
       → nearBox t d (routeAt routes i p) ≢ farBox t d (routeAt routes i q)
@@ -58,7 +57,7 @@ module _ {t : Table} (noLoop : ¬ Loop t) {routes : List ℕ} {i d r : ℕ} (rou
       let first : p + 0 ≡ p = omega arith in
       let last : p + (q - p) ≡ q = omega arith in
       rw (first, last) at
-      (no-return t noLoop d (λ j. routeAt routes i (p + j)) (q - p) (λ j g. route .segment (p + j) (omega arith) (omega arith))
+      (no-return n t noLoop d (λ j. routeAt routes i (p + j)) (q - p) (λ j g. route .segment (p + j) (omega arith) (omega arith))
       (λ j g.
       let next : p + j + 1 ≡ p + suc j = omega arith in
       rw next at (route .next (p + j) (omega arith) (omega arith))))

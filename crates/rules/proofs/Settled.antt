@@ -20,7 +20,7 @@ use Rattle.rules.specs.declared.Train.{Train}
 use Rattle.rules.specs.declared.Line.{Line}
 use Rattle.rules.specs.Rows.{nth, setNth, listOf}
 use Rattle.rules.specs.declared.Around.{Around}
-use Rattle.rules.specs.Line.{noTrain, aroundTrain, around, boxAt, trainAt, putTrain, putBox}
+use Rattle.rules.specs.Line.{noTrain, aroundOn, aroundTrain, around, boxAt, trainAt, putTrain, putBox}
 use Rattle.rules.specs.Steps.{withMessage, withHolding, heard, entered, cleared}
 use Rattle.rules.specs.Invariant.{settledBy, settledTrain, settled, Invariant}
 use Rattle.rules.proofs.Tests.{cond-each}
@@ -82,7 +82,7 @@ pub record Alike (r x : Train) : Type 0 where
 
 around-alike : (t : Table) (routes : List ℕ) (i : ℕ) {r x : Train} → Alike r x
     → aroundTrain t routes i r ≡ aroundTrain t routes i x
-unfolding aroundTrain
+unfolding aroundOn
 around-alike t routes i h = rw (h .direction, h .place, h .covered)
 
 -- What holds of a train after a yes and after a no holds of it once it has heard its answer.
@@ -158,7 +158,7 @@ module _ (t : Table) (routes : List ℕ) (i : ℕ) (r : Train) where
 
   pub settled-granted : (q : Request)
       → settledTrain t routes i (withMessage r (Answered q 0)) ≡ withHolding (aroundTrain t routes i r) (withMessage r Idle) q
-  unfolding settledTrain settledBy withMessage heard aroundTrain
+  unfolding settledTrain settledBy withMessage heard aroundOn
   settled-granted q = refl
 
   pub settled-heard : (q : Request) (c : ℕ) → r .message ≡ Answered q c
@@ -172,7 +172,7 @@ module _ (t : Table) (routes : List ℕ) (i : ℕ) (r : Train) where
   settled-entered e = rw e
 
   pub settled-cleared : settledTrain t routes i (cleared r) ≡ cleared (settledTrain t routes i r)
-  unfolding settledTrain settledBy cleared withMessage aroundTrain
+  unfolding settledTrain settledBy cleared withMessage aroundOn
   settled-cleared = go (r .message)
     where
       go : (g : Message) → settledBy (aroundTrain t routes i (cleared r)) (cleared r) g ≡ cleared (settledBy (aroundTrain t routes i r) r g)

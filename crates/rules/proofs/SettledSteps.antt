@@ -15,7 +15,7 @@ use Rattle.rules.specs.declared.Line.{Line}
 use Rattle.rules.specs.Rows.{first}
 use Rattle.rules.specs.Track.{planAt}
 use Rattle.rules.specs.declared.Around.{Around}
-use Rattle.rules.specs.Line.{aroundTrain, around, boxAt, trainAt, requestBox}
+use Rattle.rules.specs.Line.{aroundOn, aroundTrain, around, boxAt, trainAt, requestBox}
 use Rattle.rules.specs.Steps.{Step, addressed, recorded, addressRows, requestRows, boxRows, enterRows, clearRows, withMessage}
 use Rattle.rules.specs.Safety.{TrainOf}
 use Rattle.rules.specs.Invariant.{settled, Open, sent, answered, Invariant}
@@ -68,7 +68,7 @@ request-free
     : (t : Table) (routes : List ℕ) (i : ℕ) (r : Train) (q : Request) → first (addressRows (aroundTrain t routes i r) r q) ≡ 0
     → recorded (aroundTrain t routes i r) r q ≡ false
     → first (requestRows (aroundTrain t routes i r) (withMessage r Idle) q) ≡ 0
-unfolding aroundTrain withMessage
+unfolding aroundOn withMessage
 request-free t routes i r q e f =
     request-iff (aroundTrain t routes i r) (withMessage r Idle) q .1
     (refl, (ap first (address-same t routes i r (r .covered) Idle q) ∙ e, recorded-same t routes i r (r .covered) Idle q ∙ f))

@@ -14,11 +14,11 @@ use Rattle.rules.specs.declared.Message.the-variants.{Idle, Sent, Answer
 use Rattle.rules.specs.declared.Train.{Train}
 use Rattle.rules.specs.declared.Line.{Line}
 use Rattle.rules.specs.Rows.{first}
-use Rattle.rules.specs.Track.{planAt, positionFits}
+use Rattle.rules.specs.Track.{planAt, positionFits, trackOf, pointAt}
 use Rattle.rules.specs.declared.Around.{Around}
-use Rattle.rules.specs.Line.{aroundTrain, around, boxAt, trainAt}
+use Rattle.rules.specs.Line.{aroundTrain, boxAt, trainAt}
 use Rattle.rules.specs.Steps.{mostCovered, addressRows}
-use Rattle.rules.specs.Record.{answerCode, messageFault, trainFault, switchBoxFault, recordFault}
+use Rattle.rules.specs.Record.{answerCode, addressFault, messageFault, trainFault, switchBoxFault, trainsFault, boxesFault, recordFault}
 use Rattle.rules.specs.Safety.{TrainOf}
 use Rattle.rules.specs.Invariant.{Open, sent, answered}
 use Rattle.rules.proofs.Tests.{facts}
@@ -27,7 +27,7 @@ use Rattle.rules.proofs.Accepted.{Accepted, BoxOf, Routed, any-train-if
 -- Train i by its record r, its route in `routes`: it has a route, it covers a segment and no more than it may, and it stands on
 -- its route, front and tail.
 pub record Placed (t : Table) (routes : List ℕ) (i : ℕ) (r : Train) : Type 0 where
-  pub route : Routed t routes i (r .direction) (r .length)
+  pub route : Routed (t .n) (trackOf t) routes i (r .direction) (r .length)
   pub some : 1 ≤ r .covered
   pub most : r .covered ≤ mostCovered
   pub tail : r .covered ≤ r .place
@@ -48,7 +48,7 @@ pub data MessageSound (v : Around) (r : Train) : Message → Type 0 where
   answering : {q : Request} {c : ℕ} → first (addressRows v r q) ≡ 0 → answerCode q c ≡ true → MessageSound v r (Answered q c)
 
 message-iff : (v : Around) (r : Train) (g : Message) → (messageFault v r g ≡ false) ↔ MessageSound v r g
-unfolding messageFault
+unfolding messageFault addressFault
 message-iff v r Idle = (λ _. silent, λ _. refl)
 message-iff v r (Sent q) = simp facts (asking, back)
   where
@@ -69,23 +69,23 @@ pub record LineSound (l : Line) : Type 0 where
   pub messages
       : (i : ℕ) → TrainOf (l .table) i
       → MessageSound (aroundTrain (l .table) (l .routes) i (trainAt l i)) (trainAt l i) (trainAt l i .message)
-  pub boxes : (b : ℕ) → BoxOf (l .table) b → BoxSound (l .table .k) (planAt (l .table) b) (boxAt l b)
+  pub boxes : (b : ℕ) → BoxOf (l .table .m) b → BoxSound (l .table .k) (planAt (l .table) b) (boxAt l b)
 
 -- A train and a box: the check finds nothing exactly where this holds.
-train-iff : (l : Line) (i : ℕ)
-    → (trainFault l i ≡ false)
-    ↔ (Placed (l .table) (l .routes) i (trainAt l i) × MessageSound (around l i) (trainAt l i) (trainAt l i .message))
+train-iff : (t : Table) (routes : List ℕ) (i : ℕ) (r : Train)
+    → (trainFault (t .n) (trackOf t) (pointAt t) routes i r ≡ false)
+    ↔ (Placed t routes i r × MessageSound (aroundTrain t routes i r) r (r .message))
 unfolding trainFault
-train-iff l i =
+train-iff t routes i r =
     simp (facts, routed-iff, message-iff) (
       λ ((((((route, place), front), tail), covered), most), message).
           (record { route = route; some = omega arith; most = omega arith; tail = omega arith; front = omega arith }, message),
       λ (h, message). ((((((h .route, omega arith), omega arith), omega arith), omega arith), omega arith), message),
     )
 
-box-sound-iff : (l : Line) (b : ℕ) → (switchBoxFault l b ≡ false) ↔ BoxSound (l .table .k) (planAt (l .table) b) (boxAt l b)
+box-sound-iff : (k : ℕ) (p : BoxPlan) (x : SwitchBox) → (switchBoxFault k p x ≡ false) ↔ BoxSound k p x
 unfolding switchBoxFault
-box-sound-iff l b =
+box-sound-iff k p x =
     simp facts (
       λ ((((position, lock), stem), left), right).
           record {
@@ -99,7 +99,7 @@ box-sound-iff l b =
     )
 
 pub sound-iff : (l : Line) → (recordFault l ≡ false) ↔ LineSound l
-unfolding recordFault around
+unfolding recordFault trainsFault boxesFault planAt boxAt trainAt
 sound-iff l =
     simp (facts, any-train-iff, any-box-iff, accepted-iff, train-iff, box-sound-iff) (
       λ ((table, trains), boxes).

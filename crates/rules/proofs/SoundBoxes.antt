@@ -14,7 +14,7 @@ use Rattle.rules.specs.declared.Train.{Train}
 use Rattle.rules.specs.Rows.{_if_, first}
 use Rattle.rules.specs.Track.{planAt, isPoint}
 use Rattle.rules.specs.declared.Around.{Around}
-use Rattle.rules.specs.Line.{aroundTrain, requestBox, setHolder}
+use Rattle.rules.specs.Line.{aroundOn, aroundTrain, requestBox, setHolder}
 use Rattle.rules.specs.Steps.{addressRows, boxRows, granted, sensed, released}
 use Rattle.rules.specs.Record.{answerCode}
 use Rattle.rules.proofs.Tests.{cond-each}
@@ -83,7 +83,7 @@ pub granted-sound
     : (t : Table) (routes : List ℕ) (i : ℕ) (r : Train) (q : Request) {k : ℕ} {x : SwitchBox}
     → BoxSound k (planAt t (requestBox q)) x → i ≤ k → first (addressRows (aroundTrain t routes i r) r q) ≡ 0
     → BoxSound k (planAt t (requestBox q)) (granted (aroundTrain t routes i r) (planAt t (requestBox q)) x q)
-unfolding requestBox aroundTrain granted
+unfolding requestBox aroundOn granted
 granted-sound t routes i r (Reserve b) h low e = holder-sound h _ _ low
 granted-sound t routes i r (Lock b) h low e =
     let (next, at) = address-iff (aroundTrain t routes i r) r (Lock b) .0 e in

@@ -9,7 +9,7 @@ use Rattle.rules.specs.declared.Table.{Table}
 use Rattle.rules.specs.declared.SwitchBox.{SwitchBox}
 use Rattle.rules.specs.declared.Message.the-variants.{Idle}
 use Rattle.rules.specs.declared.Train.{Train}
-use Rattle.rules.specs.Track.{planAt, trainPlanAt, farBox}
+use Rattle.rules.specs.Track.{planAt, trainPlanAt, farBox, trackOf}
 use Rattle.rules.specs.Network.{lists}
 use Rattle.rules.specs.Line.{noBox, noTrain, boxAt, trainAt, holderOf, startTrain, startsOn, startHolder, startBoxWith, startBox, startLine}
 use Rattle.rules.specs.Record.{messageFault, recordFault}
@@ -71,7 +71,7 @@ module _ (t : Table) (a : Accepted t) where
   unfolding startLine trainAt
   start-train i h = filled-record (startTrain t) noTrain 16 (t .k) i (a .limits .trainsHigh) (h .low) (h .high)
 
-  start-box : (b : ℕ) → BoxOf t b → boxAt (startLine t) b ≡ startBox t b
+  start-box : (b : ℕ) → BoxOf (t .m) b → boxAt (startLine t) b ≡ startBox t b
   unfolding startLine boxAt
   start-box b h = filled-record (startBox t) noBox 96 (t .m) b (a .limits .boxesHigh) (h .low) (h .high)
 
@@ -84,7 +84,7 @@ module _ (t : Table) (a : Accepted t) where
       (λ i l h. these i (record { low = l; high = h })) none
 
   each-start-box
-      : (P : SwitchBox → Type 0) → ((b : ℕ) → BoxOf t b → P (startBox t b)) → P noBox → (b : ℕ) → P (boxAt (startLine t) b)
+      : (P : SwitchBox → Type 0) → ((b : ℕ) → BoxOf (t .m) b → P (startBox t b)) → P noBox → (b : ℕ) → P (boxAt (startLine t) b)
   unfolding startLine boxAt
   each-start-box P these none =
       filled-each (startBox t) noBox 96 (t .m) P (a .limits .boxesHigh)
@@ -109,14 +109,14 @@ module _ (t : Table) (a : Accepted t) where
   -- The first segment of a train is reserved for it at the box ahead.
   start-reserved : (i : ℕ) → TrainOf t i
       → let s = onRoute t i 1 in
-      let b = farBox t (trainPlanAt t i .direction) s in
+      let b = farBox (trackOf t) (trainPlanAt t i .direction) s in
       holderOf (planAt t b) (boxAt (startLine t) b) s ≡ i
   unfolding startsOn
   start-reserved i h =
       let route = a .routes i h in
       let d = trainPlanAt t i .direction in
       let s = onRoute t i 1 in
-      let b = farBox t d s in
+      let b = farBox (trackOf t) d s in
       let segment = route .segment 1 (omega arith) (route .low) in
       rw (start-box b (far-box a d s segment))
       (start-reads t b s (far-listed a d s segment)

@@ -13,7 +13,7 @@ use Rattle.rules.specs.declared.Message.the-variants.{Idle, Sent, Answer
 use Rattle.rules.specs.declared.Train.{Train}
 use Rattle.rules.specs.Rows.{first}
 use Rattle.rules.specs.declared.Around.{Around}
-use Rattle.rules.specs.Line.{aroundTrain}
+use Rattle.rules.specs.Line.{aroundOn, aroundTrain}
 use Rattle.rules.specs.Steps.{isOpen, addressed, recorded, atEnd, addressRows, requestRows, enterRows, clearRows, another}
 use Rattle.rules.specs.Invariant.{Open, sent, answered}
 use Rattle.rules.proofs.Tests.{facts, implies-iff, first-none, first-zero-iff}
@@ -71,12 +71,12 @@ module _ (t : Table) (routes : List ℕ) (i : ℕ) (r : Train) (covered : ℕ) (
       }
 
   pub address-same : (q : Request) → addressRows (aroundTrain t routes i showing) showing q ≡ addressRows (aroundTrain t routes i r) r q
-  unfolding addressRows addressed atEnd aroundTrain
+  unfolding addressRows addressed atEnd aroundOn
   address-same (Reserve b) = refl
   address-same (Lock b) = refl
 
   pub recorded-same : (q : Request) → recorded (aroundTrain t routes i showing) showing q ≡ recorded (aroundTrain t routes i r) r q
-  unfolding recorded aroundTrain
+  unfolding recorded aroundOn
   recorded-same (Reserve b) = refl
   recorded-same (Lock b) = refl
 

@@ -1,6 +1,6 @@
 -- The conditions on a table look only at its used part: where a table's code is 0, so is that of its used part.
 use Prim.Native.Nat.{ℕ, zero, suc, _+_, _-_, _*_, _≤_, _<_}
-use mathlib.Core.Path.{_≡_, refl, _∙_}
+use mathlib.Core.Path.{_≡_, refl, _∙_, ap}
 use mathlib.Core.Bool.{Bool}
 use mathlib.Core.List.{List}
 use native.Mathlib.Decide.{ℕ-discrete, decLe}
@@ -8,11 +8,13 @@ use native.Mathlib.Numerals.{add-one}
 use native.Mathlib.Omega.{arith}
 use lib.ListN.{getD}
 use borrow.Author.Tests.{lt-ltb}
+use Rattle.rules.specs.declared.Segment.{Segment}
 use Rattle.rules.specs.declared.Table.{Table}
 use Rattle.rules.specs.Rows.{anyOf, nth, listOf, joinOf, filled}
-use Rattle.rules.specs.Track.{noSegment, noBoxPlan, noTrainPlan, segmentAt, planAt, trainPlanAt, routeAt, endA, endB, farBox, nearBox, follows}
+use Rattle.rules.specs.Track.{noSegment, noBoxPlan, noTrainPlan, segmentAt, planAt, trainPlanAt, routeAt, trackOf, trackBy, farBox, nearBox, follows}
+use Rattle.rules.specs.Loop.{hasLoop}
 use Rattle.rules.specs.Network.{endsFault, planFault, hasEndA, hasEndB, listedFault, sideFault, boxFault, unlistedFault, headRows, networkRows}
-use Rattle.rules.specs.Placing.{routeShapeFault, routePlaceFault, routeFault, startFault, placingRows, conditionRows, tableCode}
+use Rattle.rules.specs.Placing.{routeShapeFault, routePlaceFault, routeFault, startFault, planShapeFault, planRouteFault, placingRows, partRows, partsCode, tableCode}
 use Rattle.rules.specs.File.{usedPart}
 use Rattle.rules.proofs.Rows.{any-same, filled-length, filled-same, join-at, list-at, filled-nth}
 use Rattle.rules.proofs.Loop.{loop-same}
@@ -23,7 +25,7 @@ test-same : {f g : ℕ → Bool} {m n : ℕ} → m ≡ n → ((s : ℕ) → 1 �
 test-same {f} {g} {n} e h = rw e (any-same f g n h)
 
 -- What stands at a place of a box is a segment of the table, or 0.
-place-high : {t : Table} {case : Type 0} {s : ℕ} → Dec case → UsedIf t case s → s ≤ t .n
+place-high : {n : ℕ} {case : Type 0} {s : ℕ} → Dec case → UsedIf n case s → s ≤ n
 place-high (yes c) h = h .used c .high
 place-high (no c) h = omega (arith, h .unused c)
 
@@ -46,27 +48,27 @@ pub record SameUse (t u : Table) : Type 0 where
 -- If one of them is accepted, every test finds the same in both.
 module _ (t u : Table) (same : SameUse t u) (ok : Accepted t) where
   -- A segment's ends, and what is asked of them at it, at a box that lists it and at the segments beside it.
-  a-same : (s : ℕ) → s ≤ t .n → endA u s ≡ endA t s
-  unfolding endA
-  a-same s h = rw (same .segments s h, endA)
+  a-same : (s : ℕ) → s ≤ t .n → trackOf u .endA s ≡ trackOf t .endA s
+  unfolding trackBy segmentAt
+  a-same s h = ap (λ (x : Segment). x .a) (same .segments s h)
 
-  b-same : (s : ℕ) → s ≤ t .n → endB u s ≡ endB t s
-  unfolding endB
-  b-same s h = rw (same .segments s h, endB)
+  b-same : (s : ℕ) → s ≤ t .n → trackOf u .endB s ≡ trackOf t .endB s
+  unfolding trackBy segmentAt
+  b-same s h = ap (λ (x : Segment). x .b) (same .segments s h)
 
-  ends-same : (s : ℕ) → 1 ≤ s → s ≤ t .n → endsFault u s ≡ endsFault t s
+  ends-same : (s : ℕ) → 1 ≤ s → s ≤ t .n → endsFault (u .m) (trackOf u) s ≡ endsFault (t .m) (trackOf t) s
   unfolding endsFault
   ends-same s l h = rw (a-same s h, b-same s h, same .m)
 
-  follows-same : (d s x : ℕ) → s ≤ t .n → x ≤ t .n → follows u d s x ≡ follows t d s x
+  follows-same : (d s x : ℕ) → s ≤ t .n → x ≤ t .n → follows (trackOf u) d s x ≡ follows (trackOf t) d s x
   unfolding follows farBox nearBox
   follows-same d s x h k = rw (a-same s h, a-same x k, b-same s h, b-same x k)
 
-  listed-same : (b s : ℕ) → s ≤ t .n → listedFault u b s ≡ listedFault t b s
+  listed-same : (b s : ℕ) → s ≤ t .n → listedFault (trackOf u) b s ≡ listedFault (trackOf t) b s
   unfolding listedFault hasEndA hasEndB
   listed-same b s h = rw (a-same s h, b-same s h)
 
-  side-same : (b s x : ℕ) → s ≤ t .n → x ≤ t .n → sideFault u b s x ≡ sideFault t b s x
+  side-same : (b s x : ℕ) → s ≤ t .n → x ≤ t .n → sideFault (trackOf u) b s x ≡ sideFault (trackOf t) b s x
   unfolding sideFault hasEndA hasEndB
   side-same b s x h k = rw (a-same s h, a-same x k, b-same s h, b-same x k)
 
@@ -74,7 +76,7 @@ module _ (t u : Table) (same : SameUse t u) (ok : Accepted t) where
   plan-same : (b : ℕ) → 1 ≤ b → b ≤ t .m → planFault (u .n) (planAt u b) ≡ planFault (t .n) (planAt t b)
   plan-same b l h = rw (same .boxes b h, same .n)
 
-  box-same : (b : ℕ) → 1 ≤ b → b ≤ t .m → boxFault u b ≡ boxFault t b
+  box-same : (b : ℕ) → 1 ≤ b → b ≤ t .m → boxFault (trackOf u) b (planAt u b) ≡ boxFault (trackOf t) b (planAt t b)
   unfolding boxFault
   box-same b l h =
       let plan = ok .plans b (omega arith) in
@@ -83,11 +85,17 @@ module _ (t u : Table) (same : SameUse t u) (ok : Accepted t) where
       let right = place-high (ℕ-discrete _ 2) (plan .right) in
       rw (same .boxes b h, listed-same b _ stem, listed-same b _ left, listed-same b _ right, side-same b _ _ stem left, side-same b _ _ stem right)
 
-  unlisted-same : (s : ℕ) → 1 ≤ s → s ≤ t .n → unlistedFault u s ≡ unlistedFault t s
-  unfolding unlistedFault nearBox
+  unlisted-same : (s : ℕ) → 1 ≤ s → s ≤ t .n → unlistedFault (trackOf u) (u .boxes) s ≡ unlistedFault (trackOf t) (t .boxes) s
+  unfolding unlistedFault nearBox planAt
   unlisted-same s l h =
       let box = ok .ends s (omega arith) .box in
-      rw (a-same s h, b-same s h, same .boxes (endA t s) (box 0 .high), same .boxes (endB t s) (box 1 .high))
+      rw (a-same s h, b-same s h, same .boxes (trackOf t .endA s) (box 0 .high), same .boxes (trackOf t .endB s) (box 1 .high))
+
+  -- Code 9.
+  loops-same : hasLoop (u .n) (trackOf u) ≡ hasLoop (t .n) (trackOf t)
+  loops-same =
+      ap (λ (n : ℕ). hasLoop n (trackOf u)) (same .n)
+      ∙ loop-same (t .n) (trackOf t) (trackOf u) (λ s x h k. follows-same 0 s x (h .high) (k .high))
 
   -- Codes 10 to 12 at a train.
   shape-same : (i : ℕ) → 1 ≤ i → i ≤ t .k
@@ -95,8 +103,8 @@ module _ (t u : Table) (same : SameUse t u) (ok : Accepted t) where
   shape-same i l h = rw (same .trains i h)
 
   route-same : (i : ℕ) → 1 ≤ i → i ≤ t .k
-      → routeFault u (u .routes) i (trainPlanAt u i .direction) (trainPlanAt u i .length)
-      ≡ routeFault t (t .routes) i (trainPlanAt t i .direction) (trainPlanAt t i .length)
+      → routeFault (u .n) (trackOf u) (u .routes) i (trainPlanAt u i .direction) (trainPlanAt u i .length)
+      ≡ routeFault (t .n) (trackOf t) (t .routes) i (trainPlanAt t i .direction) (trainPlanAt t i .length)
   unfolding routeFault routePlaceFault
   route-same i l h =
       rw (same .trains i h)
@@ -109,7 +117,7 @@ module _ (t u : Table) (same : SameUse t u) (ok : Accepted t) where
         same .n,
       ))
 
-  start-same : (i : ℕ) → 1 ≤ i → i ≤ t .k → startFault u i ≡ startFault t i
+  start-same : (i : ℕ) → 1 ≤ i → i ≤ t .k → startFault (u .routes) i ≡ startFault (t .routes) i
   unfolding startFault
   start-same i l h =
       test-same refl λ j low high.
@@ -117,14 +125,14 @@ module _ (t u : Table) (same : SameUse t u) (ok : Accepted t) where
 
   -- So the other has the same code.
   same-code : tableCode u ≡ tableCode t
-  unfolding tableCode headRows conditionRows networkRows placingRows
+  unfolding tableCode partsCode partRows headRows networkRows placingRows planShapeFault planRouteFault planAt trainPlanAt
   same-code =
       rw (
         test-same (same .n) ends-same,
         test-same (same .m) plan-same,
         test-same (same .m) box-same,
         test-same (same .n) unlisted-same,
-        loop-same t u (same .n) (λ s x h k. follows-same 0 s x (h .high) (k .high)),
+        loops-same,
         test-same (same .k) shape-same,
         test-same (same .k) route-same,
         test-same (same .k) start-same,

@@ -13,7 +13,7 @@ use Rattle.rules.specs.declared.Message.the-variants.{Idle, Sent, Answer
 use Rattle.rules.specs.declared.Train.{Train}
 use Rattle.rules.specs.declared.Line.{Line}
 use Rattle.rules.specs.Rows.{listOf}
-use Rattle.rules.specs.Track.{planAt, routeAt, farBox, nearBox, isPoint, joins}
+use Rattle.rules.specs.Track.{planAt, routeAt, trackOf, farBox, nearBox, isPoint, joins}
 use Rattle.rules.specs.declared.Around.{Around}
 use Rattle.rules.specs.Line.{aroundTrain, around, boxAt, trainAt, holderOf}
 use Rattle.rules.specs.Steps.{recorded, withMessage, heard}
@@ -46,7 +46,7 @@ module _ (t : Table) (routes : List ℕ) (i : ℕ) (r : Train) where
   segmentOn q = routeAt routes i q
 
   abbrev pub boxBeyond : ℕ → ℕ
-  boxBeyond q = farBox t (r .direction) (segmentOn q)
+  boxBeyond q = farBox (trackOf t) (r .direction) (segmentOn q)
 
   -- It crosses box b between places q and q + 1.
   abbrev pub CrossesAt : ℕ → ℕ → Type 0
@@ -57,7 +57,7 @@ module _ (t : Table) (routes : List ℕ) (i : ℕ) (r : Train) where
   pub data Needs : ℕ → ℕ → Type 0 where
     ahead : {q : ℕ} → Covers (placeIn r) q → Needs (boxBeyond q) (segmentOn q)
     crossed : {q b : ℕ} → CrossesAt q b → Needs b (segmentOn (q + 1))
-    nearRecorded : r .near ≡ true → Needs (nearBox t (r .direction) (segmentOn (r .place + 1))) (segmentOn (r .place + 1))
+    nearRecorded : r .near ≡ true → Needs (nearBox (trackOf t) (r .direction) (segmentOn (r .place + 1))) (segmentOn (r .place + 1))
     farRecorded : r .far ≡ true → Needs (boxBeyond (r .place + 1)) (segmentOn (r .place + 1))
 
   -- Box b must be locked for it: a crossed point, and the box ahead where its lock is recorded.

@@ -16,7 +16,7 @@ use Rattle.rules.specs.declared.Line.{Line}
 use Rattle.rules.specs.declared.Around.{Around}
 use Rattle.rules.specs.declared.Outcome.{Outcome}
 use Rattle.rules.specs.Rows.{nth, setNth, listOf, filled}
-use Rattle.rules.specs.Track.{noSegment, noBoxPlan, noTrainPlan, planAt, trainPlanAt, routeAt, farBox, nearBox, isPoint}
+use Rattle.rules.specs.Track.{noSegment, noBoxPlan, noTrainPlan, planAt, trainPlanAt, routeAt, Track, trackOf, pointAt, farBox, nearBox}
 use Rattle.rules.specs.File.{fileCode, decode}
 
 -- 01's numbers for a request: the kind of step that makes it, and its box.
@@ -115,7 +115,7 @@ startTrain t i =
 
 -- Train i starts on segment s with box b ahead of it.
 unfoldable pub startsOn : Table → ℕ → ℕ → ℕ → Bool
-startsOn t b s i = eqb (routeAt (t .routes) i 1) s && eqb (farBox t (trainPlanAt t i .direction) s) b
+startsOn t b s i = eqb (routeAt (t .routes) i 1) s && eqb (farBox (trackOf t) (trainPlanAt t i .direction) s) b
 
 -- The train among 1 .. j that segment s is reserved for at box b at the start, 0 where there is none.
 unfoldable pub startHolder : Table → ℕ → ℕ → ℕ → ℕ
@@ -178,10 +178,10 @@ read bytes =
     let c = fileCode bytes in
     cond (eqb c 0) (record { code = 0; line = startLine (decode bytes) }) (record { code = c; line = emptyLine })
 
--- What stands around train i, by its record r and its route in `routes`; and around train i of a line. On a route that follows,
--- the near end of next is at the box ahead. Where there is no next, code 16 comes before its use.
-unfoldable pub aroundTrain : Table → List ℕ → ℕ → Train → Around
-aroundTrain t routes i r =
+-- What stands around train i with record r, by the track, by which boxes are points, and by its route as it stands in `routes`.
+-- On a route that follows, the near end of next is at the box ahead. Where there is no next, code 16 comes before its use.
+unfoldable pub aroundOn : Track → (ℕ → Bool) → List ℕ → ℕ → Train → Around
+aroundOn track point routes i r =
     let segment : ℕ → ℕ = λ p. routeAt routes i p in
     let d = r .direction in
     let front = segment (r .place) in
@@ -193,12 +193,16 @@ aroundTrain t routes i r =
       next = next;
       tail = tail;
       second = segment (r .place + 2 - r .covered);
-      ahead = farBox t d front;
-      point = isPoint (planAt t (farBox t d front));
-      nearEnd = nearBox t d next;
-      farEnd = farBox t d next;
-      passed = farBox t d tail;
+      ahead = farBox track d front;
+      point = point (farBox track d front);
+      nearEnd = nearBox track d next;
+      farEnd = farBox track d next;
+      passed = farBox track d tail;
     }
+
+-- The same by a table, and around train i of a line.
+abbrev pub aroundTrain : Table → List ℕ → ℕ → Train → Around
+aroundTrain t = aroundOn (trackOf t) (pointAt t)
 
 unfoldable pub around : Line → ℕ → Around
 around l i = aroundTrain (l .table) (l .routes) i (trainAt l i)

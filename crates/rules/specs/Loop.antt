@@ -3,49 +3,48 @@ use Prim.Native.Nat.{ℕ, zero, suc, _≤_}
 use mathlib.Core.Path.{_≡_}
 use mathlib.Core.Bool.{Bool, true, false, cond, not, _||_}
 use mathlib.Core.List.{List, [], _∷_}
-use Rattle.rules.specs.declared.Table.{Table}
 use Rattle.rules.specs.Rows.{listOf}
-use Rattle.rules.specs.Track.{follows}
+use Rattle.rules.specs.Track.{Track, follows}
 
--- A number of a segment of the table.
-pub record SegmentOf (t : Table) (s : ℕ) : Type 0 where
+-- A number of one of n segments.
+pub record SegmentOf (n : ℕ) (s : ℕ) : Type 0 where
   pub low : 1 ≤ s
-  pub high : s ≤ t .n
+  pub high : s ≤ n
 
 -- A list of segments, each following the one before in direction 0, from its first to its last.
-pub data Chain (t : Table) : ℕ → List ℕ → ℕ → Type 0 where
-  single : {s : ℕ} → SegmentOf t s → Chain t s (s ∷ []) s
-  more : {s x z : ℕ} {l : List ℕ} → SegmentOf t s → follows t 0 s x ≡ true → Chain t x l z → Chain t s (s ∷ l) z
+pub data Chain (n : ℕ) (track : Track) : ℕ → List ℕ → ℕ → Type 0 where
+  single : {s : ℕ} → SegmentOf n s → Chain n track s (s ∷ []) s
+  more : {s x z : ℕ} {l : List ℕ} → SegmentOf n s → follows track 0 s x ≡ true → Chain n track x l z → Chain n track s (s ∷ l) z
 
 -- A loop: such a list whose first follows its last.
-pub record Loop (t : Table) : Type 0 where
+pub record Loop (n : ℕ) (track : Track) : Type 0 where
   pub first : ℕ
   pub segments : List ℕ
   pub last : ℕ
-  pub chain : Chain t first segments last
-  pub closed : follows t 0 last first ≡ true
+  pub chain : Chain n track first segments last
+  pub closed : follows track 0 last first ≡ true
 
 -- Some segment of the list comes before x.
-unfoldable pub anyBefore : Table → List ℕ → ℕ → Bool
-anyBefore t [] x = false
-anyBefore t (s ∷ l) x = follows t 0 s x || anyBefore t l x
+unfoldable pub anyBefore : Track → List ℕ → ℕ → Bool
+anyBefore track [] x = false
+anyBefore track (s ∷ l) x = follows track 0 s x || anyBefore track l x
 
 -- Those of a list that follow some segment of another.
-unfoldable pub following : Table → List ℕ → List ℕ → List ℕ
-following t before [] = []
-following t before (x ∷ l) = cond (anyBefore t before x) (x ∷ following t before l) (following t before l)
+unfoldable pub following : Track → List ℕ → List ℕ → List ℕ
+following track before [] = []
+following track before (x ∷ l) = cond (anyBefore track before x) (x ∷ following track before l) (following track before l)
 
 -- The segments at which a chain of r + 1 segments ends, found in r rounds.
-unfoldable pub chainEnds : Table → ℕ → List ℕ
-chainEnds t zero = listOf (t .n) (λ s. s)
-chainEnds t (suc r) =
-    let earlier = chainEnds t r in
-    following t earlier earlier
+unfoldable pub chainEnds : ℕ → Track → ℕ → List ℕ
+chainEnds n track zero = listOf n (λ s. s)
+chainEnds n track (suc r) =
+    let earlier = chainEnds n track r in
+    following track earlier earlier
 
 unfoldable pub isEmpty : List ℕ → Bool
 isEmpty [] = true
 isEmpty (s ∷ l) = false
 
--- The test: some chain has one segment more than the table, so that it passes one of them twice.
-unfoldable pub hasLoop : Table → Bool
-hasLoop t = not (isEmpty (chainEnds t (t .n)))
+-- The test: some chain has more than n segments, so that it passes one of them twice.
+unfoldable pub hasLoop : ℕ → Track → Bool
+hasLoop n track = not (isEmpty (chainEnds n track n))

@@ -5,9 +5,8 @@ use mathlib.Core.Bool.{Bool, cond, not, _&&_, _||_}
 use mathlib.Core.List.{List, [], _∷_}
 use lib.Dec.{eqb, leb, ltb}
 use Rattle.rules.specs.declared.BoxPlan.{BoxPlan}
-use Rattle.rules.specs.declared.Table.{Table}
-use Rattle.rules.specs.Rows.{Row, _if_, anyOf, outside}
-use Rattle.rules.specs.Track.{planAt, endA, endB, positionFits, isPoint}
+use Rattle.rules.specs.Rows.{Row, _if_, nth, anyOf, outside}
+use Rattle.rules.specs.Track.{noBoxPlan, Track, positionFits, isPoint}
 use Rattle.rules.specs.Loop.{hasLoop}
 
 -- Code 3: the versions that are read.
@@ -19,12 +18,16 @@ unfoldable pub limitsFault : ℕ → ℕ → ℕ → Bool
 limitsFault n m k = outside 96 n || (ltb m 2 || ltb 96 m) || ltb 16 k
 
 -- Code 6: an end box 0 or above m, or both ends one box.
-unfoldable pub endsFault : Table → ℕ → Bool
-endsFault t s = outside (t .m) (endA t s) || outside (t .m) (endB t s) || eqb (endA t s) (endB t s)
+unfoldable pub endsFault : ℕ → Track → ℕ → Bool
+endsFault m track s = outside m (track .endA s) || outside m (track .endB s) || eqb (track .endA s) (track .endB s)
 
 -- Code 7, a place that a box needs, and one that it does not use.
 unfoldable pub placeFault : ℕ → Bool → ℕ → Bool
 placeFault n needed s = cond needed (outside n s) (not (eqb s 0))
+
+-- Code 7: a point with one segment at both branches.
+unfoldable pub branchesFault : BoxPlan → Bool
+branchesFault p = isPoint p && eqb (p .left) (p .right)
 
 -- Code 7: a kind above 2, a needed segment 0 or above n, an unused place not 0, left = right at a point, a position that
 -- does not fit. The stem is needed at every box, left at links and points, right at points.
@@ -34,7 +37,7 @@ planFault n p =
     || outside n (p .stem)
     || placeFault n (leb 1 (p .kind)) (p .left)
     || placeFault n (isPoint p) (p .right)
-    || (isPoint p && eqb (p .left) (p .right))
+    || branchesFault p
     || not (positionFits p (p .position))
 
 -- The box lists the segment at one of its places.
@@ -42,43 +45,44 @@ unfoldable pub lists : BoxPlan → ℕ → Bool
 lists p s = eqb (p .stem) s || eqb (p .left) s || eqb (p .right) s
 
 -- Segment s has its A end, or its B end, at box b.
-unfoldable pub hasEndA : Table → ℕ → ℕ → Bool
-hasEndA t s b = eqb (endA t s) b
+unfoldable pub hasEndA : Track → ℕ → ℕ → Bool
+hasEndA track s b = eqb (track .endA s) b
 
-unfoldable pub hasEndB : Table → ℕ → ℕ → Bool
-hasEndB t s b = eqb (endB t s) b
+unfoldable pub hasEndB : Track → ℕ → ℕ → Bool
+hasEndB track s b = eqb (track .endB s) b
 
 -- Code 8 at a listed segment: it has no end at the box. An unused place, 0, lists nothing.
-unfoldable pub listedFault : Table → ℕ → ℕ → Bool
-listedFault t b s = not (eqb s 0) && not (hasEndA t s b || hasEndB t s b)
+unfoldable pub listedFault : Track → ℕ → ℕ → Bool
+listedFault track b s = not (eqb s 0) && not (hasEndA track s b || hasEndB track s b)
 
 -- Code 8 at a branch: it is on the stem's side of the box, both by their A ends or both by their B ends.
-unfoldable pub sideFault : Table → ℕ → ℕ → ℕ → Bool
-sideFault t b stem s = not (eqb s 0) && ((hasEndA t stem b && hasEndA t s b) || (hasEndB t stem b && hasEndB t s b))
+unfoldable pub sideFault : Track → ℕ → ℕ → ℕ → Bool
+sideFault track b stem s =
+    not (eqb s 0) && ((hasEndA track stem b && hasEndA track s b) || (hasEndB track stem b && hasEndB track s b))
 
 -- Code 8 at a box: a segment listed without an end there, or a branch on the stem's side.
-unfoldable pub boxFault : Table → ℕ → Bool
-boxFault t b =
-    let p = planAt t b in
-    listedFault t b (p .stem)
-    || listedFault t b (p .left)
-    || listedFault t b (p .right)
-    || sideFault t b (p .stem) (p .left)
-    || sideFault t b (p .stem) (p .right)
+unfoldable pub boxFault : Track → ℕ → BoxPlan → Bool
+boxFault track b p =
+    listedFault track b (p .stem)
+    || listedFault track b (p .left)
+    || listedFault track b (p .right)
+    || sideFault track b (p .stem) (p .left)
+    || sideFault track b (p .stem) (p .right)
 
 -- Code 8 at a segment: the box at one of its ends does not list it.
-unfoldable pub unlistedFault : Table → ℕ → Bool
-unlistedFault t s = not (lists (planAt t (endA t s)) s) || not (lists (planAt t (endB t s)) s)
+unfoldable pub unlistedFault : Track → List BoxPlan → ℕ → Bool
+unlistedFault track plans s =
+    not (lists (nth plans (track .endA s) noBoxPlan) s) || not (lists (nth plans (track .endB s) noBoxPlan) s)
 
 -- The head of the table, its version and the numbers of segments, boxes and trains: codes 3 and 4.
 unfoldable pub headRows : ℕ → ℕ → ℕ → ℕ → List Row
 headRows version n m k = 3 if not (knownVersion version) ∷ 4 if limitsFault n m k ∷ []
 
--- The network: codes 6 to 9.
-unfoldable pub networkRows : Table → List Row
-networkRows t =
-    6 if anyOf (t .n) (endsFault t)
-    ∷ 7 if anyOf (t .m) (λ b. planFault (t .n) (planAt t b))
-    ∷ 8 if (anyOf (t .m) (boxFault t) || anyOf (t .n) (unlistedFault t))
-    ∷ 9 if hasLoop t
+-- The network of n segments and m boxes, by its track and the plans of its boxes: codes 6 to 9.
+unfoldable pub networkRows : ℕ → ℕ → Track → List BoxPlan → List Row
+networkRows n m track plans =
+    6 if anyOf n (endsFault m track)
+    ∷ 7 if anyOf m (λ b. planFault n (nth plans b noBoxPlan))
+    ∷ 8 if (anyOf m (λ b. boxFault track b (nth plans b noBoxPlan)) || anyOf n (unlistedFault track plans))
+    ∷ 9 if hasLoop n track
     ∷ []

@@ -6,7 +6,7 @@ use mathlib.Core.List.{List, _∷_, [], _++_}
 use Rattle.rules.specs.declared.Table.{Table}
 use Rattle.rules.specs.declared.Train.{Train}
 use Rattle.rules.specs.declared.Line.{Line}
-use Rattle.rules.specs.Track.{planAt, trainPlanAt, routeAt, farBox, isPoint, joins}
+use Rattle.rules.specs.Track.{planAt, trainPlanAt, routeAt, trackOf, farBox, isPoint, joins}
 use Rattle.rules.specs.File.{fileCode, decode}
 use Rattle.rules.specs.Line.{startLine, boxAt, trainAt}
 use Rattle.rules.specs.Steps.{Step, step}
@@ -33,7 +33,7 @@ pub record Covers (at : Place) (q : ℕ) : Type 0 where
 pub record Crosses (t : Table) (routes : List ℕ) (i d : ℕ) (at : Place) (q b : ℕ) : Type 0 where
   pub from : Covers at q
   pub to : Covers at (q + 1)
-  pub between : farBox t d (routeAt routes i q) ≡ b
+  pub between : farBox (trackOf t) d (routeAt routes i q) ≡ b
 
 -- The same by the table's route and direction.
 abbrev pub CrossesBox : Table → ℕ → Place → ℕ → ℕ → Type 0

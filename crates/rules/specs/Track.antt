@@ -37,27 +37,44 @@ routeAt routes zero p = 0
 routeAt routes (suc i) zero = 0
 routeAt routes (suc i) (suc p) = cond (ltb p 64) (getD routes (64 * i + p) 0) 0
 
--- The boxes at the A end and at the B end of segment s.
-unfoldable pub endA : Table → ℕ → ℕ
-endA t s = segmentAt t s .a
+-- The boxes at the A end and at the B end of each segment, by its number. Every rule that asks for them is stated over these
+-- two functions, so that it holds for a table and for any other form in which a program keeps them.
+pub record Track : Type 0 where
+  pub endA : ℕ → ℕ
+  pub endB : ℕ → ℕ
 
-unfoldable pub endB : Table → ℕ → ℕ
-endB t s = segmentAt t s .b
+-- Those of a list of segments, and of a table.
+unfoldable pub trackBy : List Segment → Track
+trackBy l = record { endA = λ s. nth l s noSegment .a; endB = λ s. nth l s noSegment .b }
+
+abbrev pub trackOf : Table → Track
+trackOf t = trackBy (t .segments)
+
+-- Those that stand in two lists by the segment's number, 0 first.
+abbrev pub trackIn : List ℕ → List ℕ → Track
+trackIn a b = record { endA = λ s. getD a s 0; endB = λ s. getD b s 0 }
 
 -- The box at the far end of segment s for a train of direction d, and the box at its near end.
-unfoldable pub farBox : Table → ℕ → ℕ → ℕ
-farBox t d s = cond (eqb d 0) (endB t s) (endA t s)
+unfoldable pub farBox : Track → ℕ → ℕ → ℕ
+farBox track d s = cond (eqb d 0) (track .endB s) (track .endA s)
 
-unfoldable pub nearBox : Table → ℕ → ℕ → ℕ
-nearBox t d s = cond (eqb d 0) (endA t s) (endB t s)
+unfoldable pub nearBox : Track → ℕ → ℕ → ℕ
+nearBox track d s = cond (eqb d 0) (track .endA s) (track .endB s)
 
 -- Segment x follows segment s in direction d: the far end of s and the near end of x are at one box.
-unfoldable pub follows : Table → ℕ → ℕ → ℕ → Bool
-follows t d s x = eqb (farBox t d s) (nearBox t d x)
+unfoldable pub follows : Track → ℕ → ℕ → ℕ → Bool
+follows track d s x = eqb (farBox track d s) (nearBox track d x)
 
 -- The box is a point.
 unfoldable pub isPoint : BoxPlan → Bool
 isPoint p = eqb (p .kind) 2
+
+-- Box b is a point: of a table, and by a list of kinds by the box's number, 0 first.
+abbrev pub pointAt : Table → ℕ → Bool
+pointAt t b = isPoint (planAt t b)
+
+abbrev pub pointIn : List ℕ → ℕ → Bool
+pointIn kinds b = eqb (getD kinds b 0) 2
 
 -- A position (01: lie) that a box of this kind can have: 1 or 2 at a point, 0 elsewhere.
 unfoldable pub positionFits : BoxPlan → ℕ → Bool

@@ -1,18 +1,20 @@
 -- Laws of what stands around a train: the kinds of boxes, and the trains that have no route.
 use Prim.Native.Nat.{ℕ, zero, suc, _+_, _-_, _*_, _<_}
 use mathlib.Core.Path.{_≡_, refl, sym, ap}
+use mathlib.Core.Bool.{Bool}
 use mathlib.Core.List.{List}
 use native.Mathlib.Omega.{arith}
-use lib.Dec.{eqb, ltb}
+use lib.Dec.{ltb}
 use lib.ListN.{length, getD, List·getD-eq-default}
 use Rattle.rules.specs.declared.BoxPlan.{BoxPlan}
 use Rattle.rules.specs.declared.Train.{Train}
 use Rattle.rules.specs.declared.Around.{Around}
 use Rattle.rules.specs.Rows.{nth}
-use Rattle.rules.specs.Track.{noBoxPlan, routeAt}
+use Rattle.rules.specs.Track.{noBoxPlan, routeAt, Track, farBox, nearBox}
+use Rattle.rules.specs.Line.{aroundOn}
 use Rattle.rules.proofs.Tests.{cond-same}
 use Rattle.rules.proofs.Rows.{nth-at, nth-past}
-use Rattle.traincomputer.specs.Sight.{kindOf, farIn, nearIn, aroundIn}
+use Rattle.traincomputer.specs.Sight.{kindOf}
 
 -- There is no box 0 and none past the array; box i + 1 stands at index i.
 module _ (plans : List BoxPlan) where
@@ -42,7 +44,7 @@ train-past routes (suc i) (suc p) e h =
     rw none (sym (cond-same (ltb p 64) 0))
 
 -- What stands around a train, from its parts.
-pub around-of : (a b kinds routes : List ℕ) (i : ℕ) (r : Train) (v : Around) (t u : ℕ)
+pub around-of : (track : Track) (points : ℕ → Bool) (routes : List ℕ) (i : ℕ) (r : Train) (v : Around) (t u : ℕ)
     → v .number ≡ i
     → v .front ≡ routeAt routes i (r .place)
     → v .next ≡ routeAt routes i (r .place + 1)
@@ -50,12 +52,12 @@ pub around-of : (a b kinds routes : List ℕ) (i : ℕ) (r : Train) (v : Around)
     → v .tail ≡ routeAt routes i t
     → u ≡ r .place + 2 - r .covered
     → v .second ≡ routeAt routes i u
-    → v .ahead ≡ farIn a b (r .direction) (v .front)
-    → v .point ≡ eqb (getD kinds (v .ahead) 0) 2
-    → v .nearEnd ≡ nearIn a b (r .direction) (v .next)
-    → v .farEnd ≡ farIn a b (r .direction) (v .next)
-    → v .passed ≡ farIn a b (r .direction) (v .tail)
-    → v ≡ aroundIn a b kinds routes i r
-unfolding aroundIn
-around-of a b kinds routes i r v t u number front next e tail f second ahead point nearEnd farEnd passed =
+    → v .ahead ≡ farBox track (r .direction) (v .front)
+    → v .point ≡ points (v .ahead)
+    → v .nearEnd ≡ nearBox track (r .direction) (v .next)
+    → v .farEnd ≡ farBox track (r .direction) (v .next)
+    → v .passed ≡ farBox track (r .direction) (v .tail)
+    → v ≡ aroundOn track points routes i r
+unfolding aroundOn
+around-of track points routes i r v t u number front next e tail f second ahead point nearEnd farEnd passed =
     rw (← front, ← next, ← e, ← tail, ← f, ← second, ← ahead, ← point, ← nearEnd, ← farEnd, ← passed, ← number)

@@ -4,9 +4,9 @@ use rules::BoxPlan;
 use rules::Train;
 ghost use mathlib.Core.Path.{_≡_};
 ghost use Prim.Native.Nat.{_-_};
-ghost use Rattle.rules.specs.Track.{routeAt};
-ghost use Rattle.layout.specs.Ends.{column};
-ghost use Rattle.traincomputer.specs.Sight.{kindOf, farIn, nearIn, aroundIn};
+ghost use Rattle.rules.specs.Track.{routeAt, trackIn, farBox, nearBox};
+ghost use Rattle.layout.specs.Column.{column};
+ghost use Rattle.traincomputer.specs.Sight.{kindOf, aroundIn};
 
 // The kind of each box, by its number.
 pub fn kinds(plans: [BoxPlan; 96]) -> [u8; 256]
@@ -46,14 +46,14 @@ pub fn segment_at(routes: &[u8; 1024], number: u8, p: usize) -> u8
 
 // The box at the far end of segment s in direction d.
 fn far(d: u8, s: u8, a: &[u8; 256], b: &[u8; 256]) -> u8
-    ensures { λ r. ⌜ r ≡ farIn (now (a .entry)) (now (b .entry)) d s ⌝ }
+    ensures { λ r. ⌜ r ≡ farBox (trackIn (now (a .entry)) (now (b .entry))) d s ⌝ }
 {
     if d == 0 { b[s as usize] } else { a[s as usize] }
 }
 
 // The box at the near end of segment s in direction d.
 fn near(d: u8, s: u8, a: &[u8; 256], b: &[u8; 256]) -> u8
-    ensures { λ r. ⌜ r ≡ nearIn (now (a .entry)) (now (b .entry)) d s ⌝ }
+    ensures { λ r. ⌜ r ≡ nearBox (trackIn (now (a .entry)) (now (b .entry))) d s ⌝ }
 {
     if d == 0 { a[s as usize] } else { b[s as usize] }
 }

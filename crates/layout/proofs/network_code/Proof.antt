@@ -2,43 +2,44 @@
 use mathlib.Core.Path.{_≡_}
 use mathlib.Core.Bool.{false}
 use borrow.Author.Needs.{needs}
-use Rattle.rules.specs.Rows.{anyOf}
+use Rattle.rules.specs.Rows.{anyOf, nth}
+use Rattle.rules.specs.Track.{noBoxPlan, trackIn}
+use Rattle.rules.specs.Network.{endsFault, planFault, boxFault, unlistedFault}
 use Rattle.rules.proofs.Tests.{answered}
-use Rattle.layout.specs.Parts.{endsFaultIn, planFaultIn, boxFaultIn, unlistedIn}
 use Rattle.layout.proofs.Laws.{ends-more}
 use Rattle.layout.proofs.Codes.{network-6, network-7, boxes-8, segments-8, network-9, network-0}
 use Rattle.layout.proofs.network_code.Statement.{statement}
 use Rattle.layout.proofs.network_code.Tie as tie
 
 -- What was found to be without fault past each test: the ends, the plans, the boxes and the listing of segments.
-ends-fine : (c : tie.Else1) → let s = c .before .before .args in anyOf (s .n) (endsFaultIn (s .m) (s .a .now) (s .b .now)) ≡ false
+ends-fine : (c : tie.Else1) → let s = c .before .before .args in anyOf (s .n) (endsFault (s .m) (trackIn (s .a .now) (s .b .now))) ≡ false
 ends-fine c = answered _ _ _ (c .before .some-ends-faulty .ensures) (c .if1 .left)
 
-plans-fine : (c : tie.Else2) → let s = c .before .before .before .before .args in anyOf (s .m) (planFaultIn (s .n) (s .plans)) ≡ false
+plans-fine : (c : tie.Else2) → let s = c .before .before .before .before .args in anyOf (s .m) (λ x. planFault (s .n) (nth (s .plans) x noBoxPlan)) ≡ false
 plans-fine c = answered _ _ _ (c .before .some-plan-faulty .ensures) (c .if2 .left)
 
 boxes-fine : (c : tie.Else3) →
     let s = c .before .before .before .before .before .before .args in
-    anyOf (s .m) (boxFaultIn (s .plans) (s .a .now) (s .b .now)) ≡ false
+    anyOf (s .m) (λ x. boxFault (trackIn (s .a .now) (s .b .now)) x (nth (s .plans) x noBoxPlan)) ≡ false
 boxes-fine c = answered _ _ _ (c .before .some-box-faulty .ensures) (c .if3 .left)
 
 segments-fine : (c : tie.Else4) →
     let s = c .before .before .before .before .before .before .before .before .args in
-    anyOf (s .n) (unlistedIn (s .plans) (s .a .now) (s .b .now)) ≡ false
+    anyOf (s .n) (unlistedFault (trackIn (s .a .now) (s .b .now)) (s .plans)) ≡ false
 segments-fine c = answered _ _ _ (c .before .some-unlisted .ensures) (c .if4 .left)
 
 some-ends-faulty-requires : tie.Need-some-ends-faulty-requires
 some-ends-faulty-requires c κs = search needs
 
 returns : tie.Need-returns
-returns c = network-6 _ _ _ _ _ (answered _ _ _ (c .before .some-ends-faulty .ensures) (c .if1 .taken))
+returns c = network-6 _ _ _ _ (answered _ _ _ (c .before .some-ends-faulty .ensures) (c .if1 .taken))
 
 some-plan-faulty-requires : tie.Need-some-plan-faulty-requires
 some-plan-faulty-requires c κs = search needs
 
 returns-2 : tie.Need-returns-2
 returns-2 c =
-    network-7 _ _ _ _ _
+    network-7 _ _ _ _
     (ends-fine (c .before .before))
     (answered _ _ _ (c .before .some-plan-faulty .ensures) (c .if2 .taken))
 
@@ -48,7 +49,7 @@ some-box-faulty-requires c κs = search needs
 returns-3 : tie.Need-returns-3
 returns-3 c =
     let plans = c .before .before in
-    boxes-8 _ _ _ _ _
+    boxes-8 _ _ _ _
     (ends-fine (plans .before .before))
     (plans-fine plans)
     (answered _ _ _ (c .before .some-box-faulty .ensures) (c .if3 .taken))
@@ -56,12 +57,12 @@ returns-3 c =
 some-unlisted-requires : tie.Need-some-unlisted-requires
 some-unlisted-requires c κs =
     let ends = c .before .before .before .before in
-    ends-more _ _ _ _ (ends-fine ends) 96 (ends .before .before .pre)
+    ends-more _ _ _ (ends-fine ends) 96 (ends .before .before .pre .1)
 
 returns-4 : tie.Need-returns-4
 returns-4 c =
     let plans = c .before .before .before .before in
-    segments-8 _ _ _ _ _
+    segments-8 _ _ _ _
     (ends-fine (plans .before .before))
     (plans-fine plans)
     (answered _ _ _ (c .before .some-unlisted .ensures) (c .if4 .taken))
@@ -74,11 +75,12 @@ returns-5 c =
     let segments = c .before .before in
     let boxes = segments .before .before in
     let plans = boxes .before .before in
-    network-9 _ _ _ _ _
+    network-9 _ _ _ _
     (ends-fine (plans .before .before))
     (plans-fine plans)
     (boxes-fine boxes)
     (segments-fine segments)
+    (plans .before .before .before .before .pre .0)
     (answered _ _ _ (c .before .has-loop .ensures) (c .if5 .taken))
 
 returns-6 : tie.Need-returns-6
@@ -86,11 +88,12 @@ returns-6 c =
     let segments = c .before .before in
     let boxes = segments .before .before in
     let plans = boxes .before .before in
-    network-0 _ _ _ _ _
+    network-0 _ _ _ _
     (ends-fine (plans .before .before))
     (plans-fine plans)
     (boxes-fine boxes)
     (segments-fine segments)
+    (plans .before .before .before .before .pre .0)
     (answered _ _ _ (c .before .has-loop .ensures) (c .if5 .left))
 
 pub network-code-spec : {M : Type 1} → statement M

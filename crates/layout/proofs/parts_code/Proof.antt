@@ -11,7 +11,8 @@ returns c = search head-counts
 
 network-code-requires : tie.Need-network-code-requires
 network-code-requires c κs =
-    head-limits _ _ _ _ _ (c .before .head-code .ensures) (c .if1 .left) .boxesHigh
+    let limits = head-limits _ _ _ _ _ (c .before .head-code .ensures) (c .if1 .left) in
+    (limits .segmentsHigh, limits .boxesHigh)
 
 returns-2 : tie.Need-returns-2
 returns-2 c = search network-counts

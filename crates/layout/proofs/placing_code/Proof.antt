@@ -1,7 +1,7 @@
 use Rattle.rules.proofs.Tests.{tests}
 use Rattle.rules.specs.Rows.{first}
 use borrow.Author.Needs.{needs}
-use Rattle.layout.specs.Parts.{placingRowsIn}
+use Rattle.rules.specs.Placing.{placingRows}
 use Rattle.layout.proofs.placing_code.Statement.{statement}
 use Rattle.layout.proofs.placing_code.Tie as tie
 
@@ -9,25 +9,25 @@ some-shape-faulty-requires : tie.Need-some-shape-faulty-requires
 some-shape-faulty-requires c κs = search needs
 
 returns : tie.Need-returns
-unfolding placingRowsIn
+unfolding placingRows
 returns c = search tests depth 20 fits 20000
 
 some-route-faulty-requires : tie.Need-some-route-faulty-requires
 some-route-faulty-requires c κs = search needs
 
 returns-2 : tie.Need-returns-2
-unfolding placingRowsIn
+unfolding placingRows
 returns-2 c = search tests depth 20 fits 20000
 
 some-start-shared-requires : tie.Need-some-start-shared-requires
 some-start-shared-requires c κs = search needs
 
 returns-3 : tie.Need-returns-3
-unfolding placingRowsIn
+unfolding placingRows
 returns-3 c = search tests depth 20 fits 20000
 
 returns-4 : tie.Need-returns-4
-unfolding placingRowsIn first
+unfolding placingRows first
 returns-4 c = search tests depth 20 fits 20000
 
 pub placing-code-spec : {M : Type 1} → statement M

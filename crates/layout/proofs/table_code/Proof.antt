@@ -1,6 +1,6 @@
 -- The columns are the table's own.
 use Rattle.rules.proofs.Rows.{length-mapped}
-use Rattle.layout.proofs.Parts.{parts-answer}
+use Rattle.layout.proofs.Tracks.{track-made, parts-answer}
 use borrow.Author.Needs.{needs}
 use Rattle.layout.proofs.table_code.Statement.{statement}
 use Rattle.layout.proofs.table_code.Tie as tie
@@ -17,7 +17,8 @@ parts-code-requires c κs = search needs
 returns : tie.Need-returns
 returns c =
     let b = c .before .before .before .before .before in
-    parts-answer _ (search (needs, length-mapped)) _ _ _ (b .before .far-boxes .ensures) (b .far-boxes2 .ensures) (c .parts-code .ensures)
+    let made = track-made _ (search (needs, length-mapped)) (b .before .far-boxes .ensures) (b .far-boxes2 .ensures) in
+    parts-answer _ _ made (c .parts-code .ensures)
 
 pub table-code-spec : {M : Type 1} → statement M
 table-code-spec =

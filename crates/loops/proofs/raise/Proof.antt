@@ -2,13 +2,13 @@
 use Prim.Native.Nat.{_-_}
 use native.Mathlib.Omega.{arith}
 use borrow.Author.Needs.{needs}
-use Rattle.loops.specs.Track.{trackOf}
+use Rattle.rules.specs.Track.{trackIn}
 use Rattle.loops.proofs.Rising.{Passing, passing-start, passing-kept, passing-raised, passing-high, passed-raised, passed-rising}
 use Rattle.loops.proofs.raise.Statement.{statement}
 use Rattle.loops.proofs.raise.Tie as tie
 
 abbrev Inv-loop : tie.InvT-loop
-Inv-loop n a b ranks₀ highest raised₀ s₀ ranks raised s = Passing (trackOf n a b) ranks₀ ranks raised s
+Inv-loop n a b ranks₀ highest raised₀ s₀ ranks raised s = Passing n (trackIn a b) ranks₀ ranks raised s
 
 abbrev μ-loop : tie.MeasureT-loop
 μ-loop n a b ranks₀ highest raised₀ s₀ ranks raised s = n - s
@@ -18,12 +18,12 @@ raised-again c =
     let p = c .before .before .before .before in
     let q = p .before .before .before .before in
     let s = q .before .before in
-    passing-raised _ (s .pre .0) (s .args .a .now) (s .args .b .now) _ _ _ _ (q .before .loop .inv) _ _ (p .before .before .index .ensures .0) (p .index2 .ensures .0) (q .loop-test .taken) (p .index2 .ensures .1) (omega arith) (c .if2 .left)
+    passing-raised _ (s .args .a .now) (s .args .b .now) _ _ _ _ (q .before .loop .inv) _ _ (p .before .before .index .ensures .0) (p .index2 .ensures .0) (q .loop-test .taken) (p .index2 .ensures .1) (omega arith) (c .if2 .left)
 
 raised-end : tie.Need-returns-2 Inv-loop μ-loop
 raised-end c =
     let start = c .before .before .before in
-    passed-raised _ (start .pre .0) (start .args .a .now) (start .args .b .now) _ _ _ _ (c .before .before .loop .inv) (c .if3 .taken)
+    passed-raised _ (start .args .a .now) (start .args .b .now) _ _ _ _ (c .before .before .loop .inv) (c .if3 .taken)
 
 pub raise-spec : {M : Type 1} → statement M
 raise-spec =

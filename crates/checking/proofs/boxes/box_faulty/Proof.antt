@@ -2,25 +2,25 @@
 use mathlib.Core.Path.{refl}
 use Rattle.rules.proofs.Tests.{tests}
 use borrow.Author.Needs.{needs}
-use Rattle.checking.specs.Faults.{boxFaultWith}
+use Rattle.rules.specs.Record.{switchBoxFault}
 use Rattle.checking.proofs.Laws.{last-holder}
 use Rattle.checking.proofs.boxes.box_faulty.Statement.{statement}
 use Rattle.checking.proofs.boxes.box_faulty.Tie as tie
 
 returns : tie.Need-returns
-unfolding boxFaultWith
+unfolding switchBoxFault
 returns c = search tests depth 12
 
 returns-2 : tie.Need-returns-2
-unfolding boxFaultWith
+unfolding switchBoxFault
 returns-2 c = search tests depth 12
 
 returns-3 : tie.Need-returns-3
-unfolding boxFaultWith
+unfolding switchBoxFault
 returns-3 c = search tests depth 12
 
 returns-4 : tie.Need-returns-4
-unfolding boxFaultWith
+unfolding switchBoxFault
 returns-4 c = search tests depth 12
 
 returns-5 : tie.Need-returns-5

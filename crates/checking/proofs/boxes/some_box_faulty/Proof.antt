@@ -6,21 +6,20 @@ use borrow.Author.Tests.{lt-ltb, le-ltb}
 use Rattle.rules.specs.Rows.{nth}
 use Rattle.rules.specs.Track.{noBoxPlan}
 use Rattle.rules.specs.Line.{noBox}
+use Rattle.rules.specs.Record.{switchBoxFault, boxesFault}
 use Rattle.rules.proofs.Tests.{is-true, or-left, or-last}
 use Rattle.rules.proofs.Rows.{NoneYet, none-start, none-turn, none-found, none-done}
-use Rattle.checking.specs.Faults.{boxFaultWith, boxesFault}
 use Rattle.checking.proofs.Laws.{box-answer}
 use Rattle.checking.proofs.boxes.some_box_faulty.Statement.{statement}
 use Rattle.checking.proofs.boxes.some_box_faulty.Tie as tie
 
 abbrev Inv-loop : tie.InvT-loop
-Inv-loop k m plans boxes m' i₀ i = NoneYet m (λ b. boxFaultWith k (nth plans b noBoxPlan) (nth boxes b noBox)) i
+Inv-loop k m plans boxes m' i₀ i = NoneYet m (λ b. switchBoxFault k (nth plans b noBoxPlan) (nth boxes b noBox)) i
 
 abbrev μ-loop : tie.MeasureT-loop
 μ-loop k m plans boxes m' i₀ i = m - i
 
 returns : tie.Need-returns Inv-loop μ-loop
-unfolding boxesFault
 returns c = is-true _ (or-left _ _ (lt-ltb _ _ (c .if1 .taken)))
 
 returns-2 : tie.Need-returns-2 Inv-loop μ-loop

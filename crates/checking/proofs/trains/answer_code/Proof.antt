@@ -1,6 +1,7 @@
--- Each arm by its variant.
+-- Each arm by its variant and its tests.
 use mathlib.Core.Path.{refl}
 use borrow.Author.Needs.{needs}
+use Rattle.rules.proofs.Tests.{tests}
 use Rattle.checking.proofs.Laws.{answer-zero, answer-reserved, answer-locked}
 use Rattle.checking.proofs.trains.answer_code.Statement.{statement}
 use Rattle.checking.proofs.trains.answer_code.Tie as tie
@@ -9,11 +10,18 @@ returns : tie.Need-returns
 returns c = answer-zero _ _ (c .if1 .taken)
 
 returns-2 : tie.Need-returns-2
-returns-2 c = answer-reserved _ _ _ _ (c .enum-told .given .1) (c .before .before .if1 .left) refl
+returns-2 c = answer-locked _ _ _ _ (c .before .enum-told2 .given .1) (c .before .before .before .if1 .left) (search tests)
 
 returns-3 : tie.Need-returns-3
-returns-3 c = answer-locked _ _ _ _ (c .before .enum-told2 .given .1) (c .before .before .before .if1 .left) (c .lock-answer .ensures)
+returns-3 c = answer-locked _ _ _ _ (c .before .before .enum-told2 .given .1) (c .before .before .before .before .if1 .left) (search tests)
+
+returns-4 : tie.Need-returns-4
+returns-4 c = answer-reserved _ _ _ _ (c .enum-told .given .1) (c .before .before .if1 .left) refl
+
+returns-5 : tie.Need-returns-5
+returns-5 c = answer-locked _ _ _ _ (c .before .before .enum-told2 .given .1) (c .before .before .before .before .if1 .left) (search tests)
 
 pub answer-code-spec : {M : Type 1} → statement M
 answer-code-spec =
-    tie.close (tie.spec returns (λ c. search needs) (λ c. search needs) (λ c κs. search needs) returns-2 returns-3)
+    tie.close
+    (tie.spec returns (λ c. search needs) (λ c. search needs) returns-2 returns-3 returns-4 returns-5)

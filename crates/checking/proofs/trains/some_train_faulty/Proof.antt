@@ -1,36 +1,31 @@
 -- The loop has found nothing among the trains before.
 use Prim.Native.Nat.{_-_}
-use native.Mathlib.Omega.{arith}
 use borrow.Author.Needs.{needs}
 use borrow.Author.Tests.{lt-ltb, le-ltb}
 use Rattle.rules.specs.Rows.{nth}
+use Rattle.rules.specs.Track.{trackIn, pointIn}
 use Rattle.rules.specs.Line.{noTrain}
+use Rattle.rules.specs.Record.{trainFault, trainsFault}
 use Rattle.rules.proofs.Tests.{is-true, or-left, or-last}
 use Rattle.rules.proofs.Rows.{NoneYet, none-start, none-turn, none-found, none-done}
-use Rattle.checking.specs.Faults.{trainFaultIn, trainsFault}
 use Rattle.checking.proofs.Laws.{train-answer}
 use Rattle.checking.proofs.trains.some_train_faulty.Statement.{statement}
 use Rattle.checking.proofs.trains.some_train_faulty.Tie as tie
 
 abbrev Inv-loop : tie.InvT-loop
 Inv-loop n k routes a b kinds trains number₀ number =
-    NoneYet k (λ i. trainFaultIn n a b kinds routes i (nth trains i noTrain)) number
+    NoneYet k (λ i. trainFault n (trackIn a b) (pointIn kinds) routes i (nth trains i noTrain)) number
 
 abbrev μ-loop : tie.MeasureT-loop
 μ-loop n k routes a b kinds trains number₀ number = k - number
 
 returns : tie.Need-returns Inv-loop μ-loop
-unfolding trainsFault
 returns c = is-true _ (or-left _ _ (lt-ltb _ _ (c .if1 .taken)))
 
 returns-2 : tie.Need-returns-2 Inv-loop μ-loop
 unfolding trainsFault
 returns-2 c =
-    or-last _ _ _ (le-ltb _ _ (c .before .before .before .before .before .if1 .left)) (none-found _ _ _ (c .before .before .before .loop-test .taken) (train-answer _ _ _ _ _ _ _ _ _ (c .before .train-faulty .ensures) (c .if2 .taken)))
-
-loop-again : tie.Need-loop-again Inv-loop μ-loop
-loop-again c =
-    none-turn _ _ _ (c .before .before .before .before .loop .inv) (c .before .before .before .loop-test .taken) (train-answer _ _ _ _ _ _ _ _ _ (c .before .train-faulty .ensures) (c .if2 .left))
+    or-last _ _ _ (le-ltb _ _ (c .before .before .before .before .before .if1 .left)) (none-found _ _ _ (c .before .before .before .loop-test .taken) (train-answer _ _ _ _ _ _ _ _ (c .before .train-faulty .ensures) (c .if2 .taken)))
 
 returns-3 : tie.Need-returns-3 Inv-loop μ-loop
 unfolding trainsFault
@@ -43,13 +38,13 @@ some-train-faulty-spec =
     Inv-loop
     μ-loop
     returns
-    (λ c. none-start _ _)
-    (λ c. omega arith)
-    (λ c. omega arith)
-    (λ c. omega arith)
-    (λ c. omega arith)
+    (λ c. search none-start)
+    (λ c. search needs)
+    (λ c. search needs)
+    (λ c. search needs)
+    (λ c. search needs)
     (λ c κs. search needs)
     returns-2
-    (λ c. omega arith)
-    loop-again
+    (λ c. search needs)
+    (λ c. search (none-turn, train-answer))
     returns-3)

@@ -1,6 +1,6 @@
 -- Each answer is that of the definition, test by test.
 use Rattle.rules.proofs.Tests.{tests}
-use Rattle.layout.specs.Ends.{boxFaultOn}
+use Rattle.rules.specs.Network.{boxFault}
 use borrow.Author.Needs.{needs}
 use Rattle.layout.proofs.network.box_faulty.Statement.{statement}
 use Rattle.layout.proofs.network.box_faulty.Tie as tie
@@ -9,35 +9,35 @@ listed-faulty-requires : tie.Need-listed-faulty-requires
 listed-faulty-requires c κs = search needs
 
 returns : tie.Need-returns
-unfolding boxFaultOn
+unfolding boxFault
 returns c = search tests depth 12
 
 listed-faulty-requires-2 : tie.Need-listed-faulty-requires-2
 listed-faulty-requires-2 c κs = search needs
 
 returns-2 : tie.Need-returns-2
-unfolding boxFaultOn
+unfolding boxFault
 returns-2 c = search tests depth 12
 
 listed-faulty-requires-3 : tie.Need-listed-faulty-requires-3
 listed-faulty-requires-3 c κs = search needs
 
 returns-3 : tie.Need-returns-3
-unfolding boxFaultOn
+unfolding boxFault
 returns-3 c = search tests depth 12
 
 side-faulty-requires : tie.Need-side-faulty-requires
 side-faulty-requires c κs = search needs
 
 returns-4 : tie.Need-returns-4
-unfolding boxFaultOn
+unfolding boxFault
 returns-4 c = search tests depth 12
 
 side-faulty-requires-2 : tie.Need-side-faulty-requires-2
 side-faulty-requires-2 c κs = search needs
 
 returns-5 : tie.Need-returns-5
-unfolding boxFaultOn
+unfolding boxFault
 returns-5 c = search tests depth 12
 
 pub box-faulty-spec : {M : Type 1} → statement M

@@ -5,14 +5,15 @@ use mathlib.Core.Logic.{⊎-elim}
 use native.Mathlib.Omega.{arith}
 use borrow.Author.Needs.{needs}
 use Rattle.rules.proofs.Rows.{length-mapped}
-use Rattle.layout.specs.Ends.{column, farEnd}
+use Rattle.rules.specs.Track.{trackBy, farBox}
+use Rattle.layout.specs.Column.{column}
 use Rattle.layout.proofs.Column.{Filled, fill-start, fill-turn, fill-end}
 use Rattle.layout.proofs.Laws.{far-none, far-past, far-a, far-b}
 use Rattle.layout.proofs.network.far_boxes.Statement.{statement}
 use Rattle.layout.proofs.network.far_boxes.Tie as tie
 
 abbrev Inv-loop : tie.InvT-loop
-Inv-loop d segments boxes₀ i₀ boxes i = (i ≤ 96) × Filled 256 (farEnd segments d) i boxes
+Inv-loop d segments boxes₀ i₀ boxes i = (i ≤ 96) × Filled 256 (farBox (trackBy segments) d) i boxes
 
 abbrev μ-loop : tie.MeasureT-loop
 μ-loop d segments boxes₀ i₀ boxes i = 96 - i

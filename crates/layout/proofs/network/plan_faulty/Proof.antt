@@ -31,8 +31,8 @@ returns-4 : tie.Need-returns-4
 unfolding planFault isPoint
 returns-4 c = search tests depth 12
 
-branches-equal-requires : tie.Need-branches-equal-requires
-branches-equal-requires c κs = search needs
+branches-faulty-requires : tie.Need-branches-faulty-requires
+branches-faulty-requires c κs = search needs
 
 returns-5 : tie.Need-returns-5
 unfolding planFault isPoint
@@ -56,7 +56,7 @@ plan-faulty-spec =
     returns-3
     place-faulty-requires-2
     returns-4
-    branches-equal-requires
+    branches-faulty-requires
     returns-5
     position-fits-requires
     returns-6)

@@ -2,13 +2,14 @@
 use Prim.Native.Nat.{_-_}
 use borrow.Author.Needs.{needs}
 use Rattle.rules.proofs.Rows.{NoneYet, none-start, none-turn, none-found, none-done}
-use Rattle.layout.specs.Parts.{endsFaultIn}
-use Rattle.layout.proofs.Laws.{ends-answer}
+use Rattle.rules.specs.Track.{trackIn}
+use Rattle.rules.specs.Network.{endsFault}
+use Rattle.rules.proofs.Tests.{answered}
 use Rattle.layout.proofs.network.some_ends_faulty.Statement.{statement}
 use Rattle.layout.proofs.network.some_ends_faulty.Tie as tie
 
 abbrev Inv-loop : tie.InvT-loop
-Inv-loop n m a b s₀ s = NoneYet n (endsFaultIn m a b) s
+Inv-loop n m a b s₀ s = NoneYet n (endsFault m (trackIn a b)) s
 
 abbrev μ-loop : tie.MeasureT-loop
 μ-loop n m a b s₀ s = n - s
@@ -21,12 +22,8 @@ some-ends-faulty-spec =
     μ-loop
     (λ c. search none-start)
     (λ c. search needs)
-    (λ c. search needs)
-    (λ c. search needs)
-    (λ c. search needs)
-    (λ c. search needs)
     (λ c κs. search needs)
-    (λ c. search (none-found, ends-answer))
+    (λ c. search (none-found, answered))
     (λ c. search needs)
-    (λ c. search (none-turn, ends-answer))
+    (λ c. search (none-turn, answered))
     (λ c. search none-done))

@@ -3,15 +3,17 @@ use Prim.Native.Nat.{_-_}
 use mathlib.Core.Logic.{⊎-elim}
 use native.Mathlib.Omega.{arith}
 use borrow.Author.Needs.{needs}
+use borrow.Author.Tests.{not-true, not-false}
 use Rattle.rules.proofs.Tests.{answered}
 use Rattle.rules.proofs.Rows.{NoneYet, none-start, none-turn, none-found, none-done}
-use Rattle.layout.specs.Ends.{placeBreaks}
+use Rattle.rules.specs.Track.{trackIn}
+use Rattle.rules.specs.Placing.{routePlaceFault, routeFault}
 use Rattle.layout.proofs.Routes.{breaks-past, breaks-outside, breaks-apart, whole-first, whole-next}
 use Rattle.layout.proofs.placing.route_breaks.Statement.{statement}
 use Rattle.layout.proofs.placing.route_breaks.Tie as tie
 
 abbrev Inv-loop : tie.InvT-loop
-Inv-loop routes train r n near far start length p₀ p = NoneYet length (placeBreaks n near far routes train) p
+Inv-loop routes train r n near far start length p₀ p = NoneYet length (routePlaceFault n (trackIn near far) routes train 0) p
 
 abbrev μ-loop : tie.MeasureT-loop
 μ-loop routes train r n near far start length p₀ p = length - p
@@ -44,24 +46,26 @@ outside-requires : tie.Need-outside-requires Inv-loop μ-loop
 outside-requires c κs = search needs
 
 returns-2 : tie.Need-returns-2 Inv-loop μ-loop
+unfolding routeFault
 returns-2 c =
     none-found _ _ (c .before .before .before .before .loop .p) (omega arith) (breaks-outside _ _ _ _ _ _ (omega arith) (omega arith) (answered _ _ _ (c .before .outside .ensures) (c .if2 .taken)))
 
-add-apart : tie.Need-add-apart Inv-loop μ-loop
-add-apart c = omega arith
+add-follows : tie.Need-add-follows Inv-loop μ-loop
+add-follows c = omega arith
 
-sub-apart : tie.Need-sub-apart Inv-loop μ-loop
-sub-apart c = omega arith
+sub-follows : tie.Need-sub-follows Inv-loop μ-loop
+sub-follows c = omega arith
 
-element-copy-out-apart : tie.Need-element-copy-out-apart Inv-loop μ-loop
-element-copy-out-apart c = omega arith
+element-copy-out-follows : tie.Need-element-copy-out-follows Inv-loop μ-loop
+element-copy-out-follows c = omega arith
 
-apart-requires : tie.Need-apart-requires Inv-loop μ-loop
-apart-requires c κs = search needs
+follows-requires : tie.Need-follows-requires Inv-loop μ-loop
+follows-requires c κs = search needs
 
 returns-3 : tie.Need-returns-3 Inv-loop μ-loop
+unfolding routeFault
 returns-3 c =
-    none-found _ _ (c .before .before .before .before .before .before .before .before .loop .p) (omega arith) (breaks-apart _ _ _ _ _ _ (omega arith) (omega arith) (c .before .before .before .if3 .taken) (answered _ _ _ (c .before .apart .ensures) (c .if4 .taken)))
+    none-found _ _ (c .before .before .before .before .before .before .before .before .loop .p) (omega arith) (breaks-apart _ _ _ _ _ _ (omega arith) (omega arith) (c .before .before .before .if3 .taken) (answered _ _ _ (c .before .follows .ensures) (not-true _ (c .if4 .taken))))
 
 add-p : tie.Need-add-p Inv-loop μ-loop
 add-p c = omega arith
@@ -72,9 +76,10 @@ loop-less c = omega arith
 loop-again : tie.Need-loop-again Inv-loop μ-loop
 loop-again c =
     let e = answered _ _ _ (c .before .before .outside .ensures) (c .before .if2 .left) in
-    none-turn _ _ (c .before .before .before .before .before .loop .p) (c .before .before .before .before .before .loop .inv) (omega arith) (⊎-elim (λ w. whole-next _ _ _ _ _ _ (omega arith) (omega arith) e (w .0 .taken) (answered _ _ _ (w .2 .ensures) (w .3 .left))) (λ w. whole-first _ _ _ _ _ _ (omega arith) (omega arith) e (w .left)) (c .if3 .came))
+    none-turn _ _ (c .before .before .before .before .before .loop .p) (c .before .before .before .before .before .loop .inv) (omega arith) (⊎-elim (λ w. whole-next _ _ _ _ _ _ (omega arith) (omega arith) e (w .0 .taken) (answered _ _ _ (w .2 .ensures) (not-false _ (w .3 .left)))) (λ w. whole-first _ _ _ _ _ _ (omega arith) (omega arith) e (w .left)) (c .if3 .came))
 
 returns-4 : tie.Need-returns-4 Inv-loop μ-loop
+unfolding routeFault
 returns-4 c = none-done _ _ _ (c .before .loop .inv) (omega arith)
 
 pub route-breaks-spec : {M : Type 1} → statement M
@@ -93,10 +98,10 @@ route-breaks-spec =
     element-copy-out-s
     outside-requires
     returns-2
-    add-apart
-    sub-apart
-    element-copy-out-apart
-    apart-requires
+    add-follows
+    sub-follows
+    element-copy-out-follows
+    follows-requires
     returns-3
     add-p
     loop-less

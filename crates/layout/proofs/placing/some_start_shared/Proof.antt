@@ -2,13 +2,13 @@
 use Prim.Native.Nat.{_-_}
 use borrow.Author.Needs.{needs}
 use Rattle.rules.proofs.Rows.{NoneYet, none-start, none-turn, none-found, none-done}
-use Rattle.layout.specs.Parts.{startFaultIn}
-use Rattle.layout.proofs.Routes.{start-answer}
+use Rattle.rules.specs.Placing.{startFault}
+use Rattle.rules.proofs.Tests.{answered}
 use Rattle.layout.proofs.placing.some_start_shared.Statement.{statement}
 use Rattle.layout.proofs.placing.some_start_shared.Tie as tie
 
 abbrev Inv-loop : tie.InvT-loop
-Inv-loop k routes last i₀ i = NoneYet k (startFaultIn routes) i
+Inv-loop k routes last i₀ i = NoneYet k (startFault routes) i
 
 abbrev μ-loop : tie.MeasureT-loop
 μ-loop k routes last i₀ i = k - i
@@ -21,8 +21,8 @@ some-start-shared-spec =
     μ-loop
     (λ c. search none-start)
     (λ c κs. search needs)
-    (λ c. search (none-found, start-answer))
+    (λ c. search (none-found, answered))
     (λ c. search needs)
     (λ c. search needs)
-    (λ c. search (none-turn, start-answer))
+    (λ c. search (none-turn, answered))
     (λ c. search none-done))

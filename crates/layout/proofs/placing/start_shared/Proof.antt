@@ -2,13 +2,14 @@
 use Prim.Native.Nat.{_+_, _-_}
 use native.Mathlib.Omega.{arith}
 use Rattle.rules.proofs.Rows.{NoneYet, none-start, none-turn, none-found, none-done}
-use Rattle.layout.specs.Ends.{sharesStart}
-use Rattle.layout.proofs.Routes.{starts-same, starts-differ}
+use lib.Dec.{eqb}
+use Rattle.rules.specs.Track.{routeAt}
+use Rattle.layout.proofs.Routes.{starts-same, starts-differ, start-before}
 use Rattle.layout.proofs.placing.start_shared.Statement.{statement}
 use Rattle.layout.proofs.placing.start_shared.Tie as tie
 
 abbrev Inv-loop : tie.InvT-loop
-Inv-loop routes index first j₀ j = NoneYet index (sharesStart routes (index + 1)) j
+Inv-loop routes index first j₀ j = NoneYet index (λ j. eqb (routeAt routes (index + 1) 1) (routeAt routes j 1)) j
 
 abbrev μ-loop : tie.MeasureT-loop
 μ-loop routes index first j₀ j = index - j
@@ -30,7 +31,7 @@ element-copy-out-if1 c = omega arith
 
 returns : tie.Need-returns Inv-loop μ-loop
 returns c =
-    none-found _ _ _ (c .before .before .loop-test .taken) (starts-same _ _ _ (c .if1 .taken))
+    start-before _ _ _ (none-found _ _ _ (c .before .before .loop-test .taken) (starts-same _ _ _ (c .if1 .taken)))
 
 add-j : tie.Need-add-j Inv-loop μ-loop
 add-j c = omega arith
@@ -43,7 +44,7 @@ loop-again c =
     none-turn _ _ _ (c .before .before .before .loop .inv) (c .before .before .loop-test .taken) (starts-differ _ _ _ (c .if1 .left))
 
 returns-2 : tie.Need-returns-2 Inv-loop μ-loop
-returns-2 c = none-done _ _ _ (c .before .loop .inv) (c .loop-test .left)
+returns-2 c = start-before _ _ _ (none-done _ _ _ (c .before .loop .inv) (c .loop-test .left))
 
 pub start-shared-spec : {M : Type 1} → statement M
 start-shared-spec =

@@ -5,7 +5,7 @@ use mathlib.Core.Logic.{⊎-elim}
 use native.Mathlib.Omega.{arith}
 use borrow.Author.Needs.{needs}
 use lib.ListN.{length, getD}
-use Rattle.rules.specs.Track.{noTrainPlan, farBox}
+use Rattle.rules.specs.Track.{noTrainPlan, farBox, trackOf}
 use Rattle.rules.proofs.Rows.{length-mapped}
 use Rattle.reading.specs.Start.{boxesAfter}
 use Rattle.reading.proofs.Begin.{far-in, far-out, turn-here, turn-nowhere}
@@ -22,13 +22,13 @@ abbrev μ-loop : tie.MeasureT-loop
 ahead-is : (c : tie.Joined1 Inv-loop μ-loop) →
     let t = c .before .before .before .before .before .before .before .args .t1 in
     let i = c .before .before .before .before .before .loop .i in
-    c .if1 .ahead ≡ farBox t (getD (t .trains) i noTrainPlan .direction) (getD (t .routes) (64 * i) 0)
+    c .if1 .ahead ≡ farBox (trackOf t) (getD (t .trains) i noTrainPlan .direction) (getD (t .routes) (64 * i) 0)
 ahead-is c =
     let t = c .before .before .before .before .before .before .before .args .t1 in
     let h : length (t .segments) ≡ 96 = search (needs, length-mapped) in
     ⊎-elim
-    (λ w. w .3 ∙ w .2 .ensures ∙ far-in _ _ _ _ (c .before .place .ensures) (w .0 .taken))
-    (λ w. w .1 ∙ far-out _ _ _ _ h (c .before .place .ensures) (w .0 .left))
+    (λ w. w .3 ∙ w .2 .ensures ∙ far-in t _ _ _ (c .before .place .ensures) (w .0 .taken))
+    (λ w. w .1 ∙ far-out t _ _ _ h (c .before .place .ensures) (w .0 .left))
     (c .if1 .came)
 
 loop-again : tie.Need-loop-again Inv-loop μ-loop

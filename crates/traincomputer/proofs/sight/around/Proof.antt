@@ -25,7 +25,6 @@ returns c =
     _
     _
     _
-    _
     refl
     (front .segment-at .ensures)
     (next .segment-at2 .ensures)

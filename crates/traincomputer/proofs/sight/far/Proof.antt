@@ -1,16 +1,16 @@
 -- Each answer is that of the definition, test by test.
 use borrow.Author.Needs.{needs}
 use Rattle.rules.proofs.Tests.{tests}
-use Rattle.traincomputer.specs.Sight.{farIn}
+use Rattle.rules.specs.Track.{farBox}
 use Rattle.traincomputer.proofs.sight.far.Statement.{statement}
 use Rattle.traincomputer.proofs.sight.far.Tie as tie
 
 returns : tie.Need-returns
-unfolding farIn
+unfolding farBox
 returns c = search tests
 
 returns-2 : tie.Need-returns-2
-unfolding farIn
+unfolding farBox
 returns-2 c = search tests
 
 pub far-spec : {M : Type 1} → statement M

@@ -1,16 +1,16 @@
 -- Each answer is that of the definition, test by test.
 use borrow.Author.Needs.{needs}
 use Rattle.rules.proofs.Tests.{tests}
-use Rattle.traincomputer.specs.Sight.{nearIn}
+use Rattle.rules.specs.Track.{nearBox}
 use Rattle.traincomputer.proofs.sight.near.Statement.{statement}
 use Rattle.traincomputer.proofs.sight.near.Tie as tie
 
 returns : tie.Need-returns
-unfolding nearIn
+unfolding nearBox
 returns c = search tests
 
 returns-2 : tie.Need-returns-2
-unfolding nearIn
+unfolding nearBox
 returns-2 c = search tests
 
 pub near-spec : {M : Type 1} → statement M

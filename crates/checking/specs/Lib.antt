@@ -1,2 +1,0 @@
--- What the functions of this crate compute: code 27 by parts.
-pub mod Faults

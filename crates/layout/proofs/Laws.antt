@@ -15,7 +15,7 @@ use Rattle.rules.specs.Rows.{anyOf, nth}
 use Rattle.rules.proofs.Tests.{tests, facts, outside-false-iff, cond-same}
 use Rattle.rules.proofs.Rows.{any-false-at, any-false, nth-at, nth-before, nth-past}
 use Rattle.rules.specs.Track.{noSegment, noBoxPlan, noTrainPlan, Track, trackBy, farBox}
-use Rattle.rules.specs.Network.{endsFault, planFault, lists, boxFault, unlistedFault}
+use Rattle.rules.specs.Network.{endsFault, planFault, lists, hasEndA, hasEndB, sideFault, boxFault, unlistedFault}
 use Rattle.rules.specs.Placing.{routeShapeFault, planShapeFault}
 
 -- The box and train at index i are those of number i + 1; r is what a function answered for it, and v what a branch found.
@@ -69,6 +69,26 @@ module _ (n m : ℕ) (t : Track) (none : anyOf n (endsFault m t) ≡ false) wher
       any-false (endsFault p t) n λ s l h.
       let (both, differ) = simp (facts, outside-false-iff) at (any-false-at (endsFault m t) n s none l h) in
       simp (facts, outside-false-iff) (omega arith, differ)
+
+-- Code 8 at a branch s: there is none; it and the stem are at the box by their A ends, or by their B ends; and neither.
+module _ (t : Track) (b stem s : ℕ) where
+  pub no-branch : s ≡ 0 → false ≡ sideFault t b stem s
+  unfolding sideFault
+  no-branch e = search tests
+
+  module _ (branch : s ≡ 0 → ⊥) where
+    pub side-a : t .endA stem ≡ b → t .endA s ≡ b → true ≡ sideFault t b stem s
+    unfolding sideFault hasEndA
+    side-a e f = search tests depth 8
+
+    pub side-b : t .endB stem ≡ b → t .endB s ≡ b → true ≡ sideFault t b stem s
+    unfolding sideFault hasEndB
+    side-b e f = search tests depth 8
+
+    pub side-apart : (t .endA stem ≡ b → t .endA s ≡ b → ⊥) → (t .endB stem ≡ b → t .endB s ≡ b → ⊥)
+        → false ≡ sideFault t b stem s
+    unfolding sideFault hasEndA hasEndB
+    side-apart e f = sym (simp facts (λ _. (e, f)))
 
 -- What was found at the two boxes of a segment's ends.
 pub listed-at : (plans : List BoxPlan) (x s : ℕ) (r v : Bool) → 1 ≤ x → r ≡ lists (getD plans (x - 1) noBoxPlan) s → r ≡ v → lists (nth plans x noBoxPlan) s ≡ v

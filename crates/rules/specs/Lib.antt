@@ -1,15 +1,16 @@
 -- The paper as definitions, in reading order.
 -- Rows of codes and lists counted from 1.
 pub mod Rows
--- The line: track, boxes, directions.
+-- The line: records by number, the track, boxes, directions.
 pub mod Track
--- Codes 3, 4 and 6 to 12: a table is accepted.
+-- Codes 3, 4 and 6 to 12: a table is accepted. Each condition stands once, over the track and the other parts that it asks for;
+-- `tableCode` puts a table's own parts in.
 pub mod Loop
 pub mod Network
 pub mod Placing
 -- Codes 1 to 5 and 26: the table file, read and written.
 pub mod File
--- The line record and its start.
+-- The line record, its start, and what stands around a train.
 pub mod Line
 -- Steps of kinds 1 to 6, codes 13 to 25.
 pub mod Steps

@@ -50,7 +50,7 @@ trackBy l = record { endA = λ s. nth l s noSegment .a; endB = λ s. nth l s noS
 abbrev pub trackOf : Table → Track
 trackOf t = trackBy (t .segments)
 
--- Those that stand in two lists by the segment's number, 0 first.
+-- Those of two lists, which have at index s the boxes of segment s.
 abbrev pub trackIn : List ℕ → List ℕ → Track
 trackIn a b = record { endA = λ s. getD a s 0; endB = λ s. getD b s 0 }
 
@@ -69,7 +69,7 @@ follows track d s x = eqb (farBox track d s) (nearBox track d x)
 unfoldable pub isPoint : BoxPlan → Bool
 isPoint p = eqb (p .kind) 2
 
--- Box b is a point: of a table, and by a list of kinds by the box's number, 0 first.
+-- Box b is a point: of a table, and by a list that has at index b the kind of box b.
 abbrev pub pointAt : Table → ℕ → Bool
 pointAt t b = isPoint (planAt t b)
 

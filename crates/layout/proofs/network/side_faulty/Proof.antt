@@ -1,30 +1,28 @@
--- Each answer is that of the definition, test by test. Past the first pair of tests one of the two failed.
+-- Each answer by the tests that led to it. Past a pair of tests one of the two failed.
 use mathlib.Core.Logic.{⊎-elim}
-use Rattle.rules.proofs.Tests.{tests}
-use Rattle.rules.specs.Network.{sideFault, hasEndA, hasEndB}
 use borrow.Author.Needs.{needs}
+use Rattle.layout.proofs.Laws.{no-branch, side-a, side-b, side-apart}
 use Rattle.layout.proofs.network.side_faulty.Statement.{statement}
 use Rattle.layout.proofs.network.side_faulty.Tie as tie
 
 returns : tie.Need-returns
-unfolding sideFault hasEndA hasEndB
-returns c = search tests depth 12
+returns c = no-branch _ _ _ _ (c .if1 .taken)
 
 returns-2 : tie.Need-returns-2
-unfolding sideFault hasEndA hasEndB
-returns-2 c = search tests depth 12
+returns-2 c = side-a _ _ _ _ (c .before .before .before .before .if1 .left) (c .before .before .if2 .taken) (c .if3 .taken)
 
 returns-3 : tie.Need-returns-3
-unfolding sideFault hasEndA hasEndB
-returns-3 c = search tests depth 12
+returns-3 c = side-b _ _ _ _ (c .before .before .before .before .before .before .if1 .left) (c .before .before .if4 .taken) (c .if5 .taken)
 
 returns-4 : tie.Need-returns-4
-unfolding sideFault hasEndA hasEndB
-returns-4 c = ⊎-elim (λ w. search tests depth 12) (λ w. search tests depth 12) (c .before .before .before .before .if2 .came)
+returns-4 c =
+    let ends = c .before .before .before .before in
+    side-apart _ _ _ _ (ends .before .before .if1 .left) (⊎-elim (λ w e f. w .2 .left f) (λ w e f. w .left e) (ends .if2 .came)) (λ e f. c .if5 .left f)
 
 returns-5 : tie.Need-returns-5
-unfolding sideFault hasEndA hasEndB
-returns-5 c = ⊎-elim (λ w. search tests depth 12) (λ w. search tests depth 12) (c .before .before .if2 .came)
+returns-5 c =
+    let ends = c .before .before in
+    side-apart _ _ _ _ (ends .before .before .if1 .left) (⊎-elim (λ w e f. w .2 .left f) (λ w e f. w .left e) (ends .if2 .came)) (λ e f. c .if4 .left e)
 
 pub side-faulty-spec : {M : Type 1} → statement M
 side-faulty-spec =

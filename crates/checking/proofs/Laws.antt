@@ -3,9 +3,10 @@ use Prim.Native.Nat.{ℕ, _+_, _≤_, _<_}
 use mathlib.Core.Path.{_≡_}
 use mathlib.Core.Bool.{Bool, true, false, not, _||_}
 use mathlib.Core.List.{List}
+use native.Mathlib.Omega.{arith}
 use borrow.Author.Tests.{ne-eqb, le-ltb}
 use lib.Dec.{eqb, ltb}
-use lib.ListN.{getD}
+use lib.ListN.{length, getD}
 use Rattle.rules.specs.declared.Request.{Request}
 use Rattle.rules.specs.declared.Request.the-variants.{Reserve, Lock}
 use Rattle.rules.specs.declared.Message.{Message}
@@ -19,9 +20,9 @@ use Rattle.rules.specs.Track.{noBoxPlan, Track, positionFits}
 use Rattle.rules.specs.Placing.{routeShapeFault, routeFault}
 use Rattle.rules.specs.Line.{noTrain, noBox, aroundOn}
 use Rattle.rules.specs.Steps.{addressRows}
-use Rattle.rules.specs.Record.{answerCode, addressFault, messageFault, trainFault, switchBoxFault}
+use Rattle.rules.specs.Record.{answerCode, addressFault, messageFault, trainFault, trainsFault, switchBoxFault}
 use Rattle.rules.proofs.Tests.{tests, is-true, or-left, or-last, not-same, answered, outside-false-iff}
-use Rattle.rules.proofs.Rows.{nth-at}
+use Rattle.rules.proofs.Rows.{nth-at, nth-past, none-found}
 
 -- The train and the box at index i are those of number i + 1; z is what a function answered for it, and v what a branch found.
 pub train-answer : (n : ℕ) (t : Track) (point : ℕ → Bool) (routes : List ℕ) (trains : List Train) (i : ℕ) (z v : Bool)
@@ -29,6 +30,14 @@ pub train-answer : (n : ℕ) (t : Track) (point : ℕ → Bool) (routes : List �
     → z ≡ v
     → trainFault n t point routes (i + 1) (nth trains (i + 1) noTrain) ≡ v
 train-answer n t point routes trains i z v e f = rw nth-at (answered _ _ _ e f)
+
+-- More trains than there are places: train 17 has no record, and so no route.
+pub many-trains : (n k : ℕ) (t : Track) (point : ℕ → Bool) (routes : List ℕ) (trains : List Train) → length trains ≡ 16 → 16 < k
+    → true ≡ trainsFault n k t point routes trains
+unfolding trainsFault trainFault routeShapeFault outside
+many-trains n k t point routes trains sized many =
+    none-found k (λ i. trainFault n t point routes i (nth trains i noTrain)) 16 many
+    (rw (nth-past trains 17 noTrain (omega arith)) (search tests))
 
 pub box-answer : (k : ℕ) (plans : List BoxPlan) (boxes : List SwitchBox) (i : ℕ) (z v : Bool)
     → z ≡ switchBoxFault k (getD plans i noBoxPlan) (getD boxes i noBox)

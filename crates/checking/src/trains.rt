@@ -5,8 +5,6 @@ use rules::Request;
 use rules::Train;
 use traincomputer::sight;
 ghost use mathlib.Core.Path.{_≡_};
-ghost use mathlib.Core.Bool.{_||_};
-ghost use lib.Dec.{ltb};
 ghost use Rattle.rules.specs.Track.{trackIn, pointIn};
 ghost use Rattle.rules.specs.Record.{answerCode, addressFault, messageFault, trainFault, trainsFault};
 ghost use Rattle.traincomputer.specs.Sight.{aroundIn};
@@ -113,7 +111,7 @@ fn train_faulty(
 }
 
 // Code 27 at trains 1 to k, by their records, the routes as they stand, the boxes at the A ends and at the B ends of segments and
-// the kinds of boxes: there is no room for k trains, or one of them is at fault. There are n segments.
+// the kinds of boxes. There are n segments.
 pub fn some_train_faulty(
     n: u8,
     k: u8,
@@ -123,8 +121,9 @@ pub fn some_train_faulty(
     b: &[u8; 256],
     kinds: &[u8; 256],
 ) -> bool
-    ensures { λ x. ⌜ x ≡ (ltb 16 k || trainsFault n k (trackIn (now (a .entry)) (now (b .entry))) (pointIn (now (kinds .entry))) (now (routes .entry)) trains) ⌝ }
+    ensures { λ x. ⌜ x ≡ trainsFault n k (trackIn (now (a .entry)) (now (b .entry))) (pointIn (now (kinds .entry))) (now (routes .entry)) trains ⌝ }
 {
+    // Train 17 has no record, and so no route.
     if k > 16 {
         return true;
     }

@@ -32,7 +32,7 @@ pub record Coded (l : Line) (a b kinds : List ℕ) (c : ℕ) : Type 0 where
 
 -- What the check finds at the trains and at the boxes of a line.
 abbrev atTrains : Line → List ℕ → List ℕ → List ℕ → Bool
-atTrains l a b kinds = ltb 16 (l .table .k) || trainsFault (l .table .n) (l .table .k) (trackIn a b) (pointIn kinds) (l .routes) (l .trains)
+atTrains l a b kinds = trainsFault (l .table .n) (l .table .k) (trackIn a b) (pointIn kinds) (l .routes) (l .trains)
 
 abbrev atBoxes : Line → Bool
 atBoxes l = ltb 96 (l .table .m) || boxesFault (l .table .k) (l .table .m) (l .table .boxes) (l .boxes)
@@ -62,8 +62,7 @@ module _ {l : Line} {a b kinds : List ℕ} {c : ℕ} (h : Coded l a b kinds c) w
       let t = l .table in
       elim (ℕ-discrete c 0) [
         | yes e ↦
-            let limits = coded-limits e in
-            rw (le-ltb 16 (t .k) (limits .trainsHigh), le-ltb 96 (t .m) (limits .boxesHigh), coded-table)
+            rw (le-ltb 96 (t .m) (coded-limits e .boxesHigh), coded-table)
             (sym (λ j.
             not (eqb (tableCode t) 0)
             || trainsFault (t .n) (t .k) (track-shown (h .columns) (h .segments) j) (points-shown (h .columns) (h .plans) j) (l .routes) (l .trains)

@@ -9,7 +9,7 @@ use lib.Dec.{ltb}
 use Rattle.rules.specs.Rows.{_if_, first, nth, anyOf, outside}
 use Rattle.rules.specs.Track.{noBoxPlan, Track}
 use Rattle.rules.specs.Loop.{hasLoop}
-use Rattle.rules.specs.Network.{headRows, limitsFault, knownVersion, endsFault, planFault, boxFault, unlistedFault, networkRows}
+use Rattle.rules.specs.Network.{headRows, limitsFault, knownVersion, endsFault, planFault, boxFault, planFaultAt, boxFaultAt, unlistedFault, networkRows}
 use Rattle.rules.specs.Placing.{placingRows, partRows, partsCode}
 use Rattle.rules.specs.declared.BoxPlan.{BoxPlan}
 use Rattle.rules.specs.declared.TrainPlan.{TrainPlan}
@@ -88,20 +88,20 @@ module _ (n m : ℕ) (t : Track) (plans : List BoxPlan) where
   network-6 e = first-hit _ _ _ e refl
 
   module _ (ends : anyOf n (endsFault m t) ≡ false) where
-    pub network-7 : anyOf m (λ x. planFault n (nth plans x noBoxPlan)) ≡ true → Code 7
+    pub network-7 : anyOf m (planFaultAt n plans) ≡ true → Code 7
     unfolding networkRows
     network-7 e = first-skip _ _ _ ends (first-hit _ _ _ e refl)
 
-    module _ (kinds : anyOf m (λ x. planFault n (nth plans x noBoxPlan)) ≡ false) where
-      pub boxes-8 : anyOf m (λ x. boxFault t x (nth plans x noBoxPlan)) ≡ true → Code 8
+    module _ (kinds : anyOf m (planFaultAt n plans) ≡ false) where
+      pub boxes-8 : anyOf m (boxFaultAt t plans) ≡ true → Code 8
       unfolding networkRows
       boxes-8 e = first-skip _ _ _ ends (first-skip _ _ _ kinds (first-hit _ _ _ (or-left _ _ e) refl))
 
       pub segments-8 : anyOf n (unlistedFault t plans) ≡ true → Code 8
       unfolding networkRows
-      segments-8 e = first-skip _ _ _ ends (first-skip _ _ _ kinds (first-hit _ _ _ (or-right (anyOf m (λ x. boxFault t x (nth plans x noBoxPlan))) _ e) refl))
+      segments-8 e = first-skip _ _ _ ends (first-skip _ _ _ kinds (first-hit _ _ _ (or-right (anyOf m (boxFaultAt t plans)) _ e) refl))
 
-      module _ (boxes : anyOf m (λ x. boxFault t x (nth plans x noBoxPlan)) ≡ false) (segments : anyOf n (unlistedFault t plans) ≡ false) where
+      module _ (boxes : anyOf m (boxFaultAt t plans) ≡ false) (segments : anyOf n (unlistedFault t plans) ≡ false) where
         past-8 : (c : ℕ) → c ≡ first (9 if hasLoop n t ∷ []) → Code c
         unfolding networkRows
         past-8 c e = first-skip _ _ _ ends (first-skip _ _ _ kinds (first-skip _ _ _ (or-false _ _ boxes segments) e))

@@ -15,19 +15,21 @@ use Rattle.rules.specs.Rows.{anyOf, nth}
 use Rattle.rules.proofs.Tests.{tests, facts, outside-false-iff, cond-same}
 use Rattle.rules.proofs.Rows.{any-false-at, any-false, nth-at, nth-before, nth-past}
 use Rattle.rules.specs.Track.{noSegment, noBoxPlan, noTrainPlan, Track, trackBy, farBox}
-use Rattle.rules.specs.Network.{endsFault, planFault, lists, hasEndA, hasEndB, sideFault, boxFault, unlistedFault}
-use Rattle.rules.specs.Placing.{routeShapeFault, planShapeFault}
+use Rattle.rules.specs.Network.{endsFault, planFault, lists, hasEndA, hasEndB, sideFault, boxFault, planFaultAt, boxFaultAt, unlistedFault}
+use Rattle.rules.specs.Placing.{routeShapeFault, shapeFaultAt}
 
 -- The box and train at index i are those of number i + 1; r is what a function answered for it, and v what a branch found.
 module _ (i : ℕ) (r v : Bool) where
-  pub plan-answer : (n : ℕ) (plans : List BoxPlan) → r ≡ planFault n (getD plans i noBoxPlan) → r ≡ v → planFault n (nth plans (i + 1) noBoxPlan) ≡ v
+  pub plan-answer : (n : ℕ) (plans : List BoxPlan) → r ≡ planFault n (getD plans i noBoxPlan) → r ≡ v → planFaultAt n plans (i + 1) ≡ v
+  unfolding planFaultAt
   plan-answer n plans e f = rw nth-at (sym e ∙ f)
 
-  pub box-answer : (t : Track) (plans : List BoxPlan) → r ≡ boxFault t (i + 1) (getD plans i noBoxPlan) → r ≡ v → boxFault t (i + 1) (nth plans (i + 1) noBoxPlan) ≡ v
+  pub box-answer : (t : Track) (plans : List BoxPlan) → r ≡ boxFault t (i + 1) (getD plans i noBoxPlan) → r ≡ v → boxFaultAt t plans (i + 1) ≡ v
+  unfolding boxFaultAt
   box-answer t plans e f = rw nth-at (sym e ∙ f)
 
-  pub shape-answer : (trains : List TrainPlan) → r ≡ routeShapeFault (getD trains i noTrainPlan .direction) (getD trains i noTrainPlan .length) → r ≡ v → planShapeFault trains (i + 1) ≡ v
-  unfolding planShapeFault
+  pub shape-answer : (trains : List TrainPlan) → r ≡ routeShapeFault (getD trains i noTrainPlan .direction) (getD trains i noTrainPlan .length) → r ≡ v → shapeFaultAt trains (i + 1) ≡ v
+  unfolding shapeFaultAt
   shape-answer trains e f = rw nth-at (sym e ∙ f)
 
 -- The far box of a segment that is none: 0; and of the segment at index i.

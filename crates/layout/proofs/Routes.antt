@@ -12,7 +12,7 @@ use Rattle.rules.proofs.Rows.{none-found, nth-at, route-index, route-past, rout
 use Rattle.rules.specs.declared.TrainPlan.{TrainPlan}
 use Rattle.rules.specs.Rows.{outside, anyOf}
 use Rattle.rules.specs.Track.{noTrainPlan, routeAt, Track, nearBox, farBox, follows}
-use Rattle.rules.specs.Placing.{routePlaceFault, routeFault, startFault, planRouteFault}
+use Rattle.rules.specs.Placing.{routePlaceFault, routeFault, startFault, routeFaultAt}
 
 -- The segment at the place with index p of train i's route.
 place-at : (routes : List ℕ) (i p : ℕ) → 1 ≤ i → p < 64 → routeAt routes i (p + 1) ≡ getD routes (64 * (i - 1) + p) 0
@@ -72,8 +72,8 @@ unfolding outside
 route-there i r f z l e = search tests
 
 -- What code 11 says of the train with index i; r is what a function answered for it, and v what a branch found.
-pub route-answer : (n : ℕ) (t : Track) (trains : List TrainPlan) (routes : List ℕ) (i k : ℕ) (r v : Bool) → i < k → k ≤ 16 → r ≡ (outside 16 (i + 1) || routeFault n t routes (i + 1) (getD trains i noTrainPlan .direction) (getD trains i noTrainPlan .length)) → r ≡ v → planRouteFault n t trains routes (i + 1) ≡ v
-unfolding planRouteFault
+pub route-answer : (n : ℕ) (t : Track) (trains : List TrainPlan) (routes : List ℕ) (i k : ℕ) (r v : Bool) → i < k → k ≤ 16 → r ≡ (outside 16 (i + 1) || routeFault n t routes (i + 1) (getD trains i noTrainPlan .direction) (getD trains i noTrainPlan .length)) → r ≡ v → routeFaultAt n t trains routes (i + 1) ≡ v
+unfolding routeFaultAt
 route-answer n t trains routes i k r v l h e f =
     rw nth-at (rw (outside-false-iff 16 (i + 1) .1 (omega arith)) at (sym e ∙ f))
 

@@ -1,2 +1,2 @@
--- The columns that the functions of this crate are handed; all else is stated by the definitions of `rules`.
+-- The columns that `far_boxes` makes; all else is stated by the definitions of `rules`.
 pub mod Column

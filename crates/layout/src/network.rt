@@ -6,7 +6,7 @@ ghost use mathlib.Core.Bool.{false};
 ghost use Prim.Native.Nat.{_≤_};
 ghost use Rattle.rules.specs.Rows.{anyOf, outside, nth};
 ghost use Rattle.rules.specs.Track.{noBoxPlan, trackBy, trackIn, farBox, positionFits};
-ghost use Rattle.rules.specs.Network.{endsFault, placeFault, branchesFault, planFault, lists, listedFault, sideFault, boxFault, unlistedFault};
+ghost use Rattle.rules.specs.Network.{endsFault, placeFault, branchesFault, planFault, lists, listedFault, sideFault, boxFault, planFaultAt, boxFaultAt, unlistedFault};
 ghost use Rattle.layout.specs.Column.{column};
 
 // x is 0 or above n.
@@ -120,7 +120,7 @@ fn plan_faulty(n: u8, p: BoxPlan) -> bool
 // Code 7: some box is not as its kind asks.
 pub(crate) fn some_plan_faulty(n: u8, m: u8, plans: [BoxPlan; 96]) -> bool
     requires { ⌜ m ≤ 96 ⌝ }
-    ensures { λ r. ⌜ r ≡ anyOf m (λ b. planFault n (nth plans b noBoxPlan)) ⌝ }
+    ensures { λ r. ⌜ r ≡ anyOf m (planFaultAt n plans) ⌝ }
 {
     let last = m as usize;
     let mut i: usize = 0;
@@ -189,7 +189,7 @@ fn box_faulty(a: &[u8; 256], b: &[u8; 256], number: u8, p: BoxPlan) -> bool
 // Code 8: some box lists a segment without an end there, or a branch on the stem's side.
 pub(crate) fn some_box_faulty(m: u8, plans: [BoxPlan; 96], a: &[u8; 256], b: &[u8; 256]) -> bool
     requires { ⌜ m ≤ 96 ⌝ }
-    ensures { λ r. ⌜ r ≡ anyOf m (λ x. boxFault (trackIn (now (a .entry)) (now (b .entry))) x (nth plans x noBoxPlan)) ⌝ }
+    ensures { λ r. ⌜ r ≡ anyOf m (boxFaultAt (trackIn (now (a .entry)) (now (b .entry))) plans) ⌝ }
 {
     let mut number: u8 = 0;
     while number < m {

@@ -6,7 +6,7 @@ ghost use mathlib.Core.Bool.{_||_};
 ghost use Prim.Native.Nat.{_+_, _≤_};
 ghost use Rattle.rules.specs.Rows.{anyOf, outside};
 ghost use Rattle.rules.specs.Track.{trackIn, follows};
-ghost use Rattle.rules.specs.Placing.{routeShapeFault, routeFault, startFault, planShapeFault, planRouteFault};
+ghost use Rattle.rules.specs.Placing.{routeShapeFault, routeFault, startFault, shapeFaultAt, routeFaultAt};
 
 // Code 10 on a train's direction and route length.
 pub fn shape_faulty(d: u8, r: u8) -> bool
@@ -21,7 +21,7 @@ pub fn shape_faulty(d: u8, r: u8) -> bool
 // Code 10: some train has a direction above 1, or a route length outside 1 to 64.
 pub(crate) fn some_shape_faulty(k: u8, trains: [TrainPlan; 16]) -> bool
     requires { ⌜ k ≤ 16 ⌝ }
-    ensures { λ r. ⌜ r ≡ anyOf k (planShapeFault trains) ⌝ }
+    ensures { λ r. ⌜ r ≡ anyOf k (shapeFaultAt trains) ⌝ }
 {
     let last = k as usize;
     let mut i: usize = 0;
@@ -113,7 +113,7 @@ pub(crate) fn some_route_faulty(
     b: &[u8; 256],
 ) -> bool
     requires { ⌜ k ≤ 16 ⌝ }
-    ensures { λ r. ⌜ r ≡ anyOf k (planRouteFault n (trackIn (now (a .entry)) (now (b .entry))) trains (now (routes .entry))) ⌝ }
+    ensures { λ r. ⌜ r ≡ anyOf k (routeFaultAt n (trackIn (now (a .entry)) (now (b .entry))) trains (now (routes .entry))) ⌝ }
 {
     let mut number: u8 = 0;
     while number < k {

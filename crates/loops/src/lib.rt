@@ -148,7 +148,7 @@ fn raise(n: u8, a: &[u8; 256], b: &[u8; 256], ranks: &mut [u8; 256]) -> Pass
     Pass::Rising
 }
 
-// Code 9: some list of segments closes a loop; or there is room for no more segments.
+// Code 9: some list of segments closes a loop; or there is no room for n segments.
 pub fn has_loop(n: u8, m: u8, plans: [BoxPlan; 96], a: &[u8; 256], b: &[u8; 256]) -> bool
     ensures { λ r. ⌜ r ≡ (ltb 96 n || hasLoop n (trackIn (now (a .entry)) (now (b .entry)))) ⌝ }
 {

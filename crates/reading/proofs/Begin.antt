@@ -18,7 +18,7 @@ use Rattle.rules.specs.declared.Train.{Train}
 use Rattle.rules.specs.declared.Message.the-variants.{Idle}
 use Rattle.rules.specs.declared.SwitchBox.{SwitchBox}
 use Rattle.rules.specs.Rows.{listOf, filled, outside, nth}
-use Rattle.rules.specs.Track.{noSegment, noTrainPlan, noBoxPlan, segmentAt, planAt, trainPlanAt, routeAt, trackOf, trackBy, farBox}
+use Rattle.rules.specs.Track.{noSegment, noTrainPlan, noBoxPlan, segmentAt, planAt, trainPlanAt, routeAt, trackOf, trackBy, farOf, farBox}
 use Rattle.rules.specs.Line.{noBox, noTrain, setHolder, startBox, startLine, startTrain, startsOn, startHolder, startBoxWith}
 use Rattle.rules.proofs.Rows.{nth-at, list-length, list-at, list-same, filled-list-at, route-first}
 use Rattle.reading.specs.Start.{boxesAfter}
@@ -179,16 +179,16 @@ module _ (t : Table) where
       let e : s ≡ s - 1 + 1 = omega arith in
       rw e (nth-at (t .segments) (s - 1) noSegment ∙ List·getD-eq-default (t .segments) noSegment (omega arith))
 
-  far-of : (d s : ℕ) (x : Segment) → segmentAt t s ≡ x → farBox (trackOf t) d s ≡ cond (eqb d 0) (x .b) (x .a)
+  far-of : (d s : ℕ) (x : Segment) → segmentAt t s ≡ x → farBox (trackOf t) d s ≡ farOf d (x .a) (x .b)
   unfolding farBox trackBy segmentAt
-  far-of d s x e = ap (λ (y : Segment). cond (eqb d 0) (y .b) (y .a)) e
+  far-of d s x e = ap (λ (y : Segment). farOf d (y .a) (y .b)) e
 
   -- The box at the far end of segment s, by the place of the segment's record.
   pub far-in : (d s p : ℕ) →
       p ≡ cond (outside 96 s) 96 (s - 1) →
       p < 96 →
       let x = getD (t .segments) p noSegment in
-      cond (eqb d 0) (x .b) (x .a) ≡ farBox (trackOf t) d s
+      farOf d (x .a) (x .b) ≡ farBox (trackOf t) d s
   unfolding segmentAt
   far-in d s p e l =
       let q : s ≡ p + 1 = place-in s 96 p (omega arith) e l .0 in

@@ -8,8 +8,8 @@ use rules::Train;
 ghost use mathlib.Core.Path.{_≡_};
 ghost use Prim.Native.Nat.{_-_};
 ghost use mathlib.Core.Bool.{cond};
-ghost use lib.Dec.{eqb};
 ghost use Rattle.rules.specs.Rows.{listOf, filled, outside};
+ghost use Rattle.rules.specs.Track.{farOf};
 ghost use Rattle.rules.specs.Line.{noTrain, startTrain, startLine};
 ghost use Rattle.reading.specs.Start.{boxesAfter, Counted};
 
@@ -79,7 +79,7 @@ fn free_boxes(t: Table) -> [SwitchBox; 96]
 
 // The box at the far end of a segment.
 fn far(ends: Segment, direction: u8) -> u8
-    ensures { λ r. ⌜ r ≡ cond (eqb direction 0) (ends .b) (ends .a) ⌝ }
+    ensures { λ r. ⌜ r ≡ farOf direction (ends .a) (ends .b) ⌝ }
 {
     if direction == 0 { ends.b } else { ends.a }
 }

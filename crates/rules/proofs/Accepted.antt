@@ -12,8 +12,8 @@ use Rattle.rules.specs.declared.BoxPlan.{BoxPlan}
 use Rattle.rules.specs.Rows.{anyOf, nth, outside}
 use Rattle.rules.specs.Track.{noBoxPlan, planAt, trainPlanAt, routeAt, Track, trackOf, nearBox, farBox, follows, isPoint, positionFits}
 use Rattle.rules.specs.Loop.{SegmentOf, Loop}
-use Rattle.rules.specs.Network.{knownVersion, limitsFault, endsFault, placeFault, branchesFault, planFault, lists, hasEndA, hasEndB, listedFault, sideFault, boxFault, unlistedFault, headRows, networkRows}
-use Rattle.rules.specs.Placing.{routeShapeFault, routePlaceFault, routeFault, startFault, planShapeFault, planRouteFault, placingRows, partRows, partsCode, tableCode}
+use Rattle.rules.specs.Network.{knownVersion, limitsFault, endsFault, placeFault, branchesFault, planFault, lists, hasEndA, hasEndB, listedFault, sideFault, boxFault, planFaultAt, boxFaultAt, unlistedFault, headRows, networkRows}
+use Rattle.rules.specs.Placing.{routeShapeFault, routePlaceFault, routeFault, startFault, shapeFaultAt, routeFaultAt, placingRows, partRows, partsCode, tableCode}
 use Rattle.rules.specs.Safety.{TrainOf, onRoute}
 use Rattle.rules.proofs.Tests.{facts, or-true-iff, eqb-true-iff, leb-true-iff, outside-false-iff, first-none, first-zero-iff}
 use Rattle.rules.proofs.Rows.{any-false-iff, once}
@@ -308,7 +308,7 @@ faultless t a i h = routed-iff (t .n) (trackOf t) (t .routes) i _ _ .1 (a .route
 
 -- A table is accepted exactly where its code is 0.
 pub accepted-iff : (t : Table) → (tableCode t ≡ 0) ↔ Accepted t
-unfolding tableCode partsCode partRows headRows networkRows placingRows planShapeFault planRouteFault planAt trainPlanAt
+unfolding tableCode partsCode partRows headRows networkRows placingRows planFaultAt boxFaultAt shapeFaultAt routeFaultAt planAt trainPlanAt
 accepted-iff t =
     simp
     (facts, first-zero-iff, first-none, any-segment-iff, any-box-iff, any-train-iff, limits-iff, ends-iff, plan-iff, sides-iff, listing-iff, no-loop-iff) (

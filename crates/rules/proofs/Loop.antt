@@ -140,7 +140,7 @@ module _ (n : ℕ) (t : Track) where
             (List·Memᴰ·tail (r .0), r .1)
       ]
 
-  -- Every round keeps segments of the table only, and before the first round all of them are there.
+  -- Every round keeps some of the n segments only, and before the first round all of them are there.
   ends-segment : (r s : ℕ) → s ∈ chainEnds n t r → SegmentOf n s
   unfolding chainEnds listOf
   ends-segment zero s m = let h = has-from n 1 s m in record { low = h .0; high = omega arith }
@@ -184,7 +184,7 @@ module _ (n : ℕ) (t : Track) where
       let fewer : length (w .rest) < n = omega (arith, w .shorter, from-length (λ s. s) n 1) in
       walk-back n (w .rest) (single h) (λ y g. move w (inr (segment-ends y g))) fewer m
 
-  -- Each segment of a chain is one of the table, and is the chain's first or comes after one of the chain. The chain's last
+  -- Each segment of a chain is one of the n, and is the chain's first or comes after one of the chain. The chain's last
   -- is among them. So each segment of a loop comes after one of the loop.
   chain-segment : {s z x : ℕ} {l : List ℕ} → Chain n t s l z → x ∈ l → SegmentOf n x
   chain-segment (single h) m = rw (List·Memᴰ·eq-of-singleton m) h

@@ -4,7 +4,7 @@ pub mod Rows
 -- The line: records by number, the track, boxes, directions.
 pub mod Track
 -- Codes 3, 4 and 6 to 12: a table is accepted. Each condition stands once, over the track and the other parts that it asks for;
--- `tableCode` puts a table's own parts in.
+-- `conditionRows` and `tableCode` put a table's own parts in.
 pub mod Loop
 pub mod Network
 pub mod Placing

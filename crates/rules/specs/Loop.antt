@@ -45,6 +45,6 @@ unfoldable pub isEmpty : List ℕ → Bool
 isEmpty [] = true
 isEmpty (s ∷ l) = false
 
--- The test: some chain has more than n segments, so that it passes one of them twice.
+-- The test: some chain has n + 1 segments, so that it passes one of them twice.
 unfoldable pub hasLoop : ℕ → Track → Bool
 hasLoop n track = not (isEmpty (chainEnds n track n))

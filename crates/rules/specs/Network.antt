@@ -60,7 +60,7 @@ unfoldable pub sideFault : Track → ℕ → ℕ → ℕ → Bool
 sideFault track b stem s =
     not (eqb s 0) && ((hasEndA track stem b && hasEndA track s b) || (hasEndB track stem b && hasEndB track s b))
 
--- Code 8 at a box: a segment listed without an end there, or a branch on the stem's side.
+-- Code 8 at box b with plan p: a segment listed without an end there, or a branch on the stem's side.
 unfoldable pub boxFault : Track → ℕ → BoxPlan → Bool
 boxFault track b p =
     listedFault track b (p .stem)
@@ -68,6 +68,13 @@ boxFault track b p =
     || listedFault track b (p .right)
     || sideFault track b (p .stem) (p .left)
     || sideFault track b (p .stem) (p .right)
+
+-- Codes 7 and 8 at box b, by its plan among those of all boxes.
+unfoldable pub planFaultAt : ℕ → List BoxPlan → ℕ → Bool
+planFaultAt n plans b = planFault n (nth plans b noBoxPlan)
+
+unfoldable pub boxFaultAt : Track → List BoxPlan → ℕ → Bool
+boxFaultAt track plans b = boxFault track b (nth plans b noBoxPlan)
 
 -- Code 8 at a segment: the box at one of its ends does not list it.
 unfoldable pub unlistedFault : Track → List BoxPlan → ℕ → Bool
@@ -82,7 +89,7 @@ headRows version n m k = 3 if not (knownVersion version) ∷ 4 if limitsFault n 
 unfoldable pub networkRows : ℕ → ℕ → Track → List BoxPlan → List Row
 networkRows n m track plans =
     6 if anyOf n (endsFault m track)
-    ∷ 7 if anyOf m (λ b. planFault n (nth plans b noBoxPlan))
-    ∷ 8 if (anyOf m (λ b. boxFault track b (nth plans b noBoxPlan)) || anyOf n (unlistedFault track plans))
+    ∷ 7 if anyOf m (planFaultAt n plans)
+    ∷ 8 if (anyOf m (boxFaultAt track plans) || anyOf n (unlistedFault track plans))
     ∷ 9 if hasLoop n track
     ∷ []

@@ -28,32 +28,33 @@ unfoldable pub startFault : List ℕ → ℕ → Bool
 startFault routes i = anyOf (i - 1) (λ j. eqb (routeAt routes i 1) (routeAt routes j 1))
 
 -- Codes 10 and 11 at train i, by its plan among those of all trains.
-unfoldable pub planShapeFault : List TrainPlan → ℕ → Bool
-planShapeFault trains i =
+unfoldable pub shapeFaultAt : List TrainPlan → ℕ → Bool
+shapeFaultAt trains i =
     let p = nth trains i noTrainPlan in
     routeShapeFault (p .direction) (p .length)
 
-unfoldable pub planRouteFault : ℕ → Track → List TrainPlan → List ℕ → ℕ → Bool
-planRouteFault n track trains routes i =
+unfoldable pub routeFaultAt : ℕ → Track → List TrainPlan → List ℕ → ℕ → Bool
+routeFaultAt n track trains routes i =
     let p = nth trains i noTrainPlan in
     routeFault n track routes i (p .direction) (p .length)
 
 -- k trains, by their plans and routes, on n segments of a track: codes 10 to 12.
 unfoldable pub placingRows : ℕ → ℕ → Track → List TrainPlan → List ℕ → List Row
 placingRows n k track trains routes =
-    10 if anyOf k (planShapeFault trains)
-    ∷ 11 if anyOf k (planRouteFault n track trains routes)
+    10 if anyOf k (shapeFaultAt trains)
+    ∷ 11 if anyOf k (routeFaultAt n track trains routes)
     ∷ 12 if anyOf k (startFault routes)
     ∷ []
 
--- What comes after a table's head, by the table's parts and of a table: codes 6 to 12. The reader puts code 5 before it.
+-- What comes after a table's head, over the table's parts and for a table: codes 6 to 12. The reader puts code 5 before it.
 unfoldable pub partRows : ℕ → ℕ → ℕ → Track → List BoxPlan → List TrainPlan → List ℕ → List Row
 partRows n m k track plans trains routes = networkRows n m track plans ++ placingRows n k track trains routes
 
 abbrev pub conditionRows : Table → List Row
 conditionRows t = partRows (t .n) (t .m) (t .k) (trackOf t) (t .boxes) (t .trains) (t .routes)
 
--- The code of a table record, by its parts and of a table: 3, 4 and 6 to 12, or 0. The writer and the record check use it.
+-- The code of a table record, over its parts and for a table: 3, 4 and 6 to 12, or 0. The writer and the record check use the
+-- latter.
 unfoldable pub partsCode : ℕ → ℕ → ℕ → ℕ → Track → List BoxPlan → List TrainPlan → List ℕ → ℕ
 partsCode version n m k track plans trains routes =
     first (headRows version n m k ++ partRows n m k track plans trains routes)

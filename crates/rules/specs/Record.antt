@@ -34,8 +34,9 @@ messageFault v r Idle = false
 messageFault v r (Sent q) = addressFault v r q
 messageFault v r (Answered q c) = addressFault v r q || not (answerCode q c)
 
--- Train i with record r, on n segments of a track: its route as it stands fails 10 or 11; the train is outside its route, its
--- tail included; it covers no segment or more than it may; or its message is at fault.
+-- Train i with record r, on n segments of a track, where `point` says which boxes are points and `routes` has the routes as they
+-- stand: its route fails 10 or 11; the train is outside its route, its tail included; it covers no segment or more than it may; or
+-- its message is at fault.
 unfoldable pub trainFault : ℕ → Track → (ℕ → Bool) → List ℕ → ℕ → Train → Bool
 trainFault n track point routes i r =
     routeShapeFault (r .direction) (r .length)
@@ -57,7 +58,7 @@ switchBoxFault k p x =
     || ltb k (x .left)
     || ltb k (x .right)
 
--- Some train of 1 to k, and some box of 1 to m, by the records of all.
+-- Some train of 1 to k is at fault, and some box of 1 to m is, by the records of all.
 unfoldable pub trainsFault : ℕ → ℕ → Track → (ℕ → Bool) → List ℕ → List Train → Bool
 trainsFault n k track point routes trains = anyOf k (λ i. trainFault n track point routes i (nth trains i noTrain))
 

@@ -37,8 +37,9 @@ routeAt routes zero p = 0
 routeAt routes (suc i) zero = 0
 routeAt routes (suc i) (suc p) = cond (ltb p 64) (getD routes (64 * i + p) 0) 0
 
--- The boxes at the A end and at the B end of each segment, by its number. Every rule that asks for them is stated over these
--- two functions, so that it holds for a table and for any other form in which a program keeps them.
+-- The boxes at the A end and at the B end of each segment, by its number. The conditions on a table, what stands around a train
+-- and the record check are stated over these two functions, so that they hold for a table and for any other form in which a
+-- program keeps the ends.
 pub record Track : Type 0 where
   pub endA : ℕ → ℕ
   pub endB : ℕ → ℕ
@@ -54,27 +55,34 @@ trackOf t = trackBy (t .segments)
 abbrev pub trackIn : List ℕ → List ℕ → Track
 trackIn a b = record { endA = λ s. getD a s 0; endB = λ s. getD b s 0 }
 
+-- Of the boxes a and b at the A end and the B end of a segment, the one at its far end for a train of direction d.
+abbrev pub farOf : ℕ → ℕ → ℕ → ℕ
+farOf d a b = cond (eqb d 0) b a
+
 -- The box at the far end of segment s for a train of direction d, and the box at its near end.
 unfoldable pub farBox : Track → ℕ → ℕ → ℕ
-farBox track d s = cond (eqb d 0) (track .endB s) (track .endA s)
+farBox track d s = farOf d (track .endA s) (track .endB s)
 
 unfoldable pub nearBox : Track → ℕ → ℕ → ℕ
-nearBox track d s = cond (eqb d 0) (track .endA s) (track .endB s)
+nearBox track d s = farOf d (track .endB s) (track .endA s)
 
 -- Segment x follows segment s in direction d: the far end of s and the near end of x are at one box.
 unfoldable pub follows : Track → ℕ → ℕ → ℕ → Bool
 follows track d s x = eqb (farBox track d s) (nearBox track d x)
 
--- The box is a point.
+-- The kind of a point, and a box that is one.
+abbrev pub pointKind : ℕ → Bool
+pointKind kind = eqb kind 2
+
 unfoldable pub isPoint : BoxPlan → Bool
-isPoint p = eqb (p .kind) 2
+isPoint p = pointKind (p .kind)
 
 -- Box b is a point: of a table, and by a list that has at index b the kind of box b.
 abbrev pub pointAt : Table → ℕ → Bool
 pointAt t b = isPoint (planAt t b)
 
 abbrev pub pointIn : List ℕ → ℕ → Bool
-pointIn kinds b = eqb (getD kinds b 0) 2
+pointIn kinds b = pointKind (getD kinds b 0)
 
 -- A position (01: lie) that a box of this kind can have: 1 or 2 at a point, 0 elsewhere.
 unfoldable pub positionFits : BoxPlan → ℕ → Bool

@@ -4,7 +4,7 @@ use mathlib.Core.Bool.{false}
 use borrow.Author.Needs.{needs}
 use Rattle.rules.specs.Rows.{anyOf, nth}
 use Rattle.rules.specs.Track.{noBoxPlan, trackIn}
-use Rattle.rules.specs.Network.{endsFault, planFault, boxFault, unlistedFault}
+use Rattle.rules.specs.Network.{endsFault, planFault, boxFault, planFaultAt, boxFaultAt, unlistedFault}
 use Rattle.rules.proofs.Tests.{answered}
 use Rattle.layout.proofs.Laws.{ends-more}
 use Rattle.layout.proofs.Codes.{network-6, network-7, boxes-8, segments-8, network-9, network-0}
@@ -15,12 +15,12 @@ use Rattle.layout.proofs.network_code.Tie as tie
 ends-fine : (c : tie.Else1) → let s = c .before .before .args in anyOf (s .n) (endsFault (s .m) (trackIn (s .a .now) (s .b .now))) ≡ false
 ends-fine c = answered _ _ _ (c .before .some-ends-faulty .ensures) (c .if1 .left)
 
-plans-fine : (c : tie.Else2) → let s = c .before .before .before .before .args in anyOf (s .m) (λ x. planFault (s .n) (nth (s .plans) x noBoxPlan)) ≡ false
+plans-fine : (c : tie.Else2) → let s = c .before .before .before .before .args in anyOf (s .m) (planFaultAt (s .n) (s .plans)) ≡ false
 plans-fine c = answered _ _ _ (c .before .some-plan-faulty .ensures) (c .if2 .left)
 
 boxes-fine : (c : tie.Else3) →
     let s = c .before .before .before .before .before .before .args in
-    anyOf (s .m) (λ x. boxFault (trackIn (s .a .now) (s .b .now)) x (nth (s .plans) x noBoxPlan)) ≡ false
+    anyOf (s .m) (boxFaultAt (trackIn (s .a .now) (s .b .now)) (s .plans)) ≡ false
 boxes-fine c = answered _ _ _ (c .before .some-box-faulty .ensures) (c .if3 .left)
 
 segments-fine : (c : tie.Else4) →

@@ -1,14 +1,12 @@
 -- The loop has found nothing among the trains before.
 use Prim.Native.Nat.{_-_}
 use borrow.Author.Needs.{needs}
-use borrow.Author.Tests.{lt-ltb, le-ltb}
 use Rattle.rules.specs.Rows.{nth}
 use Rattle.rules.specs.Track.{trackIn, pointIn}
 use Rattle.rules.specs.Line.{noTrain}
 use Rattle.rules.specs.Record.{trainFault, trainsFault}
-use Rattle.rules.proofs.Tests.{is-true, or-left, or-last}
-use Rattle.rules.proofs.Rows.{NoneYet, none-start, none-turn, none-found, none-done}
-use Rattle.checking.proofs.Laws.{train-answer}
+use Rattle.rules.proofs.Rows.{length-mapped, NoneYet, none-start, none-turn, none-found, none-done}
+use Rattle.checking.proofs.Laws.{train-answer, many-trains}
 use Rattle.checking.proofs.trains.some_train_faulty.Statement.{statement}
 use Rattle.checking.proofs.trains.some_train_faulty.Tie as tie
 
@@ -20,16 +18,16 @@ abbrev μ-loop : tie.MeasureT-loop
 μ-loop n k routes a b kinds trains number₀ number = k - number
 
 returns : tie.Need-returns Inv-loop μ-loop
-returns c = is-true _ (or-left _ _ (lt-ltb _ _ (c .if1 .taken)))
+returns c = many-trains _ _ _ _ _ _ (search (needs, length-mapped)) (c .if1 .taken)
 
 returns-2 : tie.Need-returns-2 Inv-loop μ-loop
 unfolding trainsFault
 returns-2 c =
-    or-last _ _ _ (le-ltb _ _ (c .before .before .before .before .before .if1 .left)) (none-found _ _ _ (c .before .before .before .loop-test .taken) (train-answer _ _ _ _ _ _ _ _ (c .before .train-faulty .ensures) (c .if2 .taken)))
+    none-found _ _ _ (c .before .before .before .loop-test .taken) (train-answer _ _ _ _ _ _ _ _ (c .before .train-faulty .ensures) (c .if2 .taken))
 
 returns-3 : tie.Need-returns-3 Inv-loop μ-loop
 unfolding trainsFault
-returns-3 c = or-last _ _ _ (le-ltb _ _ (c .before .before .if1 .left)) (none-done _ _ _ (c .before .loop .inv) (c .loop-test .left))
+returns-3 c = none-done _ _ _ (c .before .loop .inv) (c .loop-test .left)
 
 pub some-train-faulty-spec : {M : Type 1} → statement M
 some-train-faulty-spec =

@@ -3,14 +3,14 @@ use Prim.Native.Nat.{_-_}
 use borrow.Author.Needs.{needs}
 use Rattle.rules.specs.Rows.{nth}
 use Rattle.rules.specs.Track.{noBoxPlan, trackIn}
-use Rattle.rules.specs.Network.{boxFault}
+use Rattle.rules.specs.Network.{boxFault, planFaultAt, boxFaultAt}
 use Rattle.rules.proofs.Rows.{NoneYet, none-start, none-turn, none-found, none-done}
 use Rattle.layout.proofs.Laws.{box-answer}
 use Rattle.layout.proofs.network.some_box_faulty.Statement.{statement}
 use Rattle.layout.proofs.network.some_box_faulty.Tie as tie
 
 abbrev Inv-loop : tie.InvT-loop
-Inv-loop m a b plans number₀ number = NoneYet m (λ x. boxFault (trackIn a b) x (nth plans x noBoxPlan)) number
+Inv-loop m a b plans number₀ number = NoneYet m (boxFaultAt (trackIn a b) plans) number
 
 abbrev μ-loop : tie.MeasureT-loop
 μ-loop m a b plans number₀ number = m - number

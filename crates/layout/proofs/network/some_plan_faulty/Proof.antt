@@ -4,13 +4,13 @@ use borrow.Author.Needs.{needs}
 use Rattle.rules.proofs.Rows.{NoneYet, none-start, none-turn, none-found, none-done}
 use Rattle.rules.specs.Rows.{nth}
 use Rattle.rules.specs.Track.{noBoxPlan}
-use Rattle.rules.specs.Network.{planFault}
+use Rattle.rules.specs.Network.{planFault, planFaultAt}
 use Rattle.layout.proofs.Laws.{plan-answer}
 use Rattle.layout.proofs.network.some_plan_faulty.Statement.{statement}
 use Rattle.layout.proofs.network.some_plan_faulty.Tie as tie
 
 abbrev Inv-loop : tie.InvT-loop
-Inv-loop n m plans last i₀ i = NoneYet m (λ b. planFault n (nth plans b noBoxPlan)) i
+Inv-loop n m plans last i₀ i = NoneYet m (planFaultAt n plans) i
 
 abbrev μ-loop : tie.MeasureT-loop
 μ-loop n m plans last i₀ i = m - i

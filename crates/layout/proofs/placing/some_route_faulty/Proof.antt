@@ -3,13 +3,13 @@ use Prim.Native.Nat.{_-_}
 use borrow.Author.Needs.{needs}
 use Rattle.rules.proofs.Rows.{NoneYet, none-start, none-turn, none-found, none-done}
 use Rattle.rules.specs.Track.{trackIn}
-use Rattle.rules.specs.Placing.{planRouteFault}
+use Rattle.rules.specs.Placing.{routeFaultAt}
 use Rattle.layout.proofs.Routes.{route-answer}
 use Rattle.layout.proofs.placing.some_route_faulty.Statement.{statement}
 use Rattle.layout.proofs.placing.some_route_faulty.Tie as tie
 
 abbrev Inv-loop : tie.InvT-loop
-Inv-loop n k routes a b trains number₀ number = NoneYet k (planRouteFault n (trackIn a b) trains routes) number
+Inv-loop n k routes a b trains number₀ number = NoneYet k (routeFaultAt n (trackIn a b) trains routes) number
 
 abbrev μ-loop : tie.MeasureT-loop
 μ-loop n k routes a b trains number₀ number = k - number

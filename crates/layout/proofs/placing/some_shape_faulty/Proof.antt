@@ -2,13 +2,13 @@
 use Prim.Native.Nat.{_-_}
 use borrow.Author.Needs.{needs}
 use Rattle.rules.proofs.Rows.{NoneYet, none-start, none-turn, none-found, none-done}
-use Rattle.rules.specs.Placing.{planShapeFault}
+use Rattle.rules.specs.Placing.{shapeFaultAt}
 use Rattle.layout.proofs.Laws.{shape-answer}
 use Rattle.layout.proofs.placing.some_shape_faulty.Statement.{statement}
 use Rattle.layout.proofs.placing.some_shape_faulty.Tie as tie
 
 abbrev Inv-loop : tie.InvT-loop
-Inv-loop k trains last i₀ i = NoneYet k (planShapeFault trains) i
+Inv-loop k trains last i₀ i = NoneYet k (shapeFaultAt trains) i
 
 abbrev μ-loop : tie.MeasureT-loop
 μ-loop k trains last i₀ i = k - i

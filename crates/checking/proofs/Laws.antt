@@ -1,4 +1,4 @@
--- What code 27 says of a line, in the words of the functions that test it.
+-- What code 27 says of a train and of a box, in the words of the functions that test it.
 use Prim.Native.Nat.{ℕ, _+_, _≤_, _<_}
 use mathlib.Core.Path.{_≡_}
 use mathlib.Core.Bool.{Bool, true, false, not, _||_}
@@ -21,22 +21,23 @@ use Rattle.rules.specs.Placing.{routeShapeFault, routeFault}
 use Rattle.rules.specs.Line.{noTrain, noBox, aroundOn}
 use Rattle.rules.specs.Steps.{addressRows}
 use Rattle.rules.specs.Record.{answerCode, addressFault, messageFault, trainFault, trainsFault, switchBoxFault}
-use Rattle.rules.proofs.Tests.{tests, is-true, or-left, or-last, not-same, answered, outside-false-iff}
+use Rattle.rules.proofs.Tests.{tests, is-true, or-left, or-last, not-same, answered}
+use Rattle.layout.proofs.Routes.{route-told}
 use Rattle.rules.proofs.Rows.{nth-at, nth-past, none-found}
 
 -- The train and the box at index i are those of number i + 1; z is what a function answered for it, and v what a branch found.
-pub train-answer : (n : ℕ) (t : Track) (point : ℕ → Bool) (routes : List ℕ) (trains : List Train) (i : ℕ) (z v : Bool)
-    → z ≡ trainFault n t point routes (i + 1) (getD trains i noTrain)
+pub train-answer : (n : ℕ) (track : Track) (point : ℕ → Bool) (routes : List ℕ) (trains : List Train) (i : ℕ) (z v : Bool)
+    → z ≡ trainFault n track point routes (i + 1) (getD trains i noTrain)
     → z ≡ v
-    → trainFault n t point routes (i + 1) (nth trains (i + 1) noTrain) ≡ v
-train-answer n t point routes trains i z v e f = rw nth-at (answered _ _ _ e f)
+    → trainFault n track point routes (i + 1) (nth trains (i + 1) noTrain) ≡ v
+train-answer n track point routes trains i z v e f = rw nth-at (answered _ _ _ e f)
 
 -- More trains than there are places: train 17 has no record, and so no route.
-pub many-trains : (n k : ℕ) (t : Track) (point : ℕ → Bool) (routes : List ℕ) (trains : List Train) → length trains ≡ 16 → 16 < k
-    → true ≡ trainsFault n k t point routes trains
+pub many-trains : (n k : ℕ) (track : Track) (point : ℕ → Bool) (routes : List ℕ) (trains : List Train) → length trains ≡ 16 → 16 < k
+    → true ≡ trainsFault n k track point routes trains
 unfolding trainsFault trainFault routeShapeFault outside
-many-trains n k t point routes trains sized many =
-    none-found k (λ i. trainFault n t point routes i (nth trains i noTrain)) 16 many
+many-trains n k track point routes trains sized many =
+    none-found k (λ i. trainFault n track point routes i (nth trains i noTrain)) 16 many
     (rw (nth-past trains 17 noTrain (omega arith)) (search tests))
 
 pub box-answer : (k : ℕ) (plans : List BoxPlan) (boxes : List SwitchBox) (i : ℕ) (z v : Bool)
@@ -87,9 +88,9 @@ module _ (v : Around) (r : Train) (g : Message) where
 
 -- A train that fails one of the tests, one by one, and one of which all but its message is fine; s, q and z are what functions
 -- answered.
-module _ (n : ℕ) (t : Track) (point : ℕ → Bool) (routes : List ℕ) (i : ℕ) (r : Train) where
+module _ (n : ℕ) (track : Track) (point : ℕ → Bool) (routes : List ℕ) (i : ℕ) (r : Train) where
   abbrev Faulty : Type 0
-  Faulty = true ≡ trainFault n t point routes i r
+  Faulty = true ≡ trainFault n track point routes i r
 
   pub faulty-shape : (s : Bool) → s ≡ routeShapeFault (r .direction) (r .length) → s ≡ true → Faulty
   unfolding trainFault
@@ -97,10 +98,10 @@ module _ (n : ℕ) (t : Track) (point : ℕ → Bool) (routes : List ℕ) (i : �
       let found : routeShapeFault (r .direction) (r .length) ≡ true = answered _ _ _ e f in
       search tests depth 12
 
-  pub faulty-route : (q : Bool) → 1 ≤ i → i ≤ 16 → q ≡ (outside 16 i || routeFault n t routes i (r .direction) (r .length)) → q ≡ true → Faulty
+  pub faulty-route : (q : Bool) → 1 ≤ i → i ≤ 16 → q ≡ (outside 16 i || routeFault n track routes i (r .direction) (r .length)) → q ≡ true → Faulty
   unfolding trainFault
   faulty-route q l h e f =
-      let found : routeFault n t routes i (r .direction) (r .length) ≡ true = rw (outside-false-iff 16 i .1 (l, h)) at (answered _ _ _ e f) in
+      let found : routeFault n track routes i (r .direction) (r .length) ≡ true = route-told i q _ true l h e f in
       search tests depth 12
 
   pub before-route : r .place ≡ 0 → Faulty
@@ -128,19 +129,19 @@ module _ (n : ℕ) (t : Track) (point : ℕ → Bool) (routes : List ℕ) (i : �
       → s ≡ false
       → 1 ≤ i
       → i ≤ 16
-      → q ≡ (outside 16 i || routeFault n t routes i (r .direction) (r .length))
+      → q ≡ (outside 16 i || routeFault n track routes i (r .direction) (r .length))
       → q ≡ false
       → (r .place ≡ 0 → ⊥)
       → r .place ≤ r .length
       → r .covered ≤ r .place
       → (r .covered ≡ 0 → ⊥)
       → r .covered ≤ 2
-      → z ≡ messageFault (aroundOn t point routes i r) r (r .message)
-      → z ≡ trainFault n t point routes i r
+      → z ≡ messageFault (aroundOn track point routes i r) r (r .message)
+      → z ≡ trainFault n track point routes i r
   unfolding trainFault
   last-message s q z e f low high g h placed within tail some few last =
       let shaped : routeShapeFault (r .direction) (r .length) ≡ false = answered _ _ _ e f in
-      let follows : routeFault n t routes i (r .direction) (r .length) ≡ false = rw (outside-false-iff 16 i .1 (low, high)) at (answered _ _ _ g h) in
+      let routed : routeFault n track routes i (r .direction) (r .length) ≡ false = route-told i q _ false low high g h in
       search tests depth 12
 
 -- A box of which all but the holder at its right is fine; f is what a function answered of its position.

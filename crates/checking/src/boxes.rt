@@ -4,7 +4,7 @@ use rules::SwitchBox;
 ghost use mathlib.Core.Path.{_≡_};
 ghost use mathlib.Core.Bool.{_||_};
 ghost use lib.Dec.{ltb};
-ghost use Rattle.rules.specs.Record.{switchBoxFault, boxesFault};
+ghost use Rattle.rules.specs.Record.{switchBoxFault, switchBoxesFault};
 
 // Code 27 at a box with this plan, on a line with k trains.
 fn box_faulty(k: u8, p: BoxPlan, x: SwitchBox) -> bool
@@ -28,7 +28,7 @@ fn box_faulty(k: u8, p: BoxPlan, x: SwitchBox) -> bool
 // Code 27 at boxes 1 to m, by their plans and records, on a line with k trains: there is no room for m boxes, or one of them is
 // at fault.
 pub fn some_box_faulty(k: u8, m: u8, plans: [BoxPlan; 96], boxes: [SwitchBox; 96]) -> bool
-    ensures { λ r. ⌜ r ≡ (ltb 96 m || boxesFault k m plans boxes) ⌝ }
+    ensures { λ r. ⌜ r ≡ (ltb 96 m || switchBoxesFault k m plans boxes) ⌝ }
 {
     if m > 96 {
         return true;

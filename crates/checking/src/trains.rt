@@ -5,10 +5,10 @@ use rules::Request;
 use rules::Train;
 use traincomputer::sight;
 ghost use mathlib.Core.Path.{_≡_};
+ghost use Prim.Native.Nat.{_≤_};
 ghost use Rattle.rules.specs.Track.{trackIn, pointIn};
 ghost use Rattle.rules.specs.Record.{answerCode, addressFault, messageFault, trainFault, trainsFault};
 ghost use Rattle.traincomputer.specs.Sight.{aroundIn};
-ghost use Prim.Native.Nat.{_≤_};
 
 // A code that a box can give in answer to a request.
 fn answer_code(q: Request, code: u8) -> bool

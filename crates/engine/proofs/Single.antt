@@ -11,7 +11,7 @@ use Rattle.rules.specs.declared.Line.{Line}
 use Rattle.rules.specs.Track.{trackIn, pointIn}
 use Rattle.rules.specs.Steps.{Step, step}
 use Rattle.rules.specs.Placing.{partsCode, tableCode}
-use Rattle.rules.specs.Record.{trainsFault, boxesFault, recordFault, checkedStep}
+use Rattle.rules.specs.Record.{trainsFault, switchBoxesFault, recordFault, checkedStep}
 use Rattle.rules.specs.History.{lineAfter, events}
 use Rattle.rules.specs.Run.{wholeSteps, stepCount, answersOf, answersFrom}
 use Rattle.rules.proofs.Tests.{or-left, or-right}
@@ -35,7 +35,7 @@ abbrev atTrains : Line → List ℕ → List ℕ → List ℕ → Bool
 atTrains l a b kinds = trainsFault (l .table .n) (l .table .k) (trackIn a b) (pointIn kinds) (l .routes) (l .trains)
 
 abbrev atBoxes : Line → Bool
-atBoxes l = ltb 96 (l .table .m) || boxesFault (l .table .k) (l .table .m) (l .table .boxes) (l .boxes)
+atBoxes l = ltb 96 (l .table .m) || switchBoxesFault (l .table .k) (l .table .m) (l .table .boxes) (l .boxes)
 
 -- All three parts of the check find nothing.
 pub record Passed (l : Line) (a b kinds : List ℕ) (c : ℕ) : Type 0 where
@@ -49,6 +49,7 @@ refused-27 : {l : Line} (s : Step) → recordFault l ≡ true → record { code 
 unfolding checkedStep
 refused-27 s e = rw e refl
 
+-- The code is the table's; where it is 0, the table is within its limits; and the check is its three parts.
 module _ {l : Line} {a b kinds : List ℕ} {c : ℕ} (h : Coded l a b kinds c) where
   coded-table : c ≡ tableCode (l .table)
   coded-table = parts-answer (l .table) c (track-shown (h .columns) (h .segments)) (h .code)
@@ -66,7 +67,7 @@ module _ {l : Line} {a b kinds : List ℕ} {c : ℕ} (h : Coded l a b kinds c) w
             (sym (λ j.
             not (eqb (tableCode t) 0)
             || trainsFault (t .n) (t .k) (track-shown (h .columns) (h .segments) j) (points-shown (h .columns) (h .plans) j) (l .routes) (l .trains)
-            || boxesFault (t .k) (t .m) (t .boxes) (l .boxes)))
+            || switchBoxesFault (t .k) (t .m) (t .boxes) (l .boxes)))
         | no e ↦ rw (← coded-table, ne-eqb c 0 e)
       ]
 

@@ -13,26 +13,21 @@ use Rattle.rules.specs.declared.Train.{Train}
 use Rattle.rules.specs.declared.Line.{Line}
 use Rattle.rules.specs.declared.Outcome.{Outcome}
 use Rattle.rules.specs.Rows.{outside}
-use Rattle.rules.specs.Track.{noBoxPlan, trackOf, trackIn, farBox, pointAt, pointIn}
+use Rattle.rules.specs.Track.{noBoxPlan, trackOf, trackIn, pointAt, pointIn}
 use Rattle.rules.specs.Line.{noBox, noTrain, aroundOn, aroundTrain}
 use Rattle.rules.specs.Steps.{Step, step}
 use Rattle.rules.specs.Run.{stepCount}
-use Rattle.layout.specs.Column.{column}
 use Rattle.layout.proofs.Tracks.{track-made}
 use Rattle.deciding.specs.declared.Decided.{Decided}
 use Rattle.deciding.specs.declared.Decided.the-variants.{Refused, Changed}
-use Rattle.traincomputer.specs.Sight.{kindOf, aroundIn}
+use Rattle.traincomputer.specs.Sight.{aroundIn}
 use Rattle.deciding.specs.Decided.{concernedBox, decided}
-use Rattle.traincomputer.proofs.Around.{column-points}
+use Rattle.traincomputer.proofs.Points.{column-points}
 use Rattle.deciding.proofs.Steps.{leaving, putAt, step-decided}
 use Rattle.engine.specs.Loop.{Columns}
 use Rattle.engine.proofs.Running.{Running, stepAt, running-turn, running-room}
 
--- The columns as they are made, and what they show: the table's track and its points.
-pub columns-made : (t : Table) {a b kinds : List ℕ} → a ≡ column (farBox (trackOf t) 1) → b ≡ column (farBox (trackOf t) 0)
-    → kinds ≡ column (kindOf (t .boxes)) → Columns t a b kinds
-columns-made t e f g = record { ends-a = e; ends-b = f; kinds-of = g }
-
+-- What the columns of a table show: its track and its points.
 module _ {t : Table} {a b kinds : List ℕ} (h : Columns t a b kinds) where
   pub track-shown : length (t .segments) ≡ 96 → trackIn a b ≡ trackOf t
   track-shown e = track-made (t .segments) e (h .ends-a) (h .ends-b)

@@ -12,7 +12,8 @@ use Rattle.rules.specs.declared.Segment.{Segment}
 use Rattle.rules.specs.declared.BoxPlan.{BoxPlan}
 use Rattle.rules.specs.declared.TrainPlan.{TrainPlan}
 use Rattle.rules.specs.Rows.{anyOf, nth}
-use Rattle.rules.proofs.Tests.{tests, facts, outside-false-iff, cond-same}
+use Rattle.rules.proofs.Tests.{tests, facts, answered, outside-false-iff, cond-same}
+use Rattle.rules.proofs.Accepted.{BoxOf}
 use Rattle.rules.proofs.Rows.{any-false-at, any-false, nth-at, nth-before, nth-past}
 use Rattle.rules.specs.Track.{noSegment, noBoxPlan, noTrainPlan, Track, trackBy, farBox}
 use Rattle.rules.specs.Network.{endsFault, planFault, lists, hasEndA, hasEndB, sideFault, boxFault, planFaultAt, boxFaultAt, unlistedFault}
@@ -22,15 +23,15 @@ use Rattle.rules.specs.Placing.{routeShapeFault, shapeFaultAt}
 module _ (i : ℕ) (r v : Bool) where
   pub plan-answer : (n : ℕ) (plans : List BoxPlan) → r ≡ planFault n (getD plans i noBoxPlan) → r ≡ v → planFaultAt n plans (i + 1) ≡ v
   unfolding planFaultAt
-  plan-answer n plans e f = rw nth-at (sym e ∙ f)
+  plan-answer n plans e f = rw nth-at (answered _ _ _ e f)
 
-  pub box-answer : (t : Track) (plans : List BoxPlan) → r ≡ boxFault t (i + 1) (getD plans i noBoxPlan) → r ≡ v → boxFaultAt t plans (i + 1) ≡ v
+  pub box-answer : (track : Track) (plans : List BoxPlan) → r ≡ boxFault track (i + 1) (getD plans i noBoxPlan) → r ≡ v → boxFaultAt track plans (i + 1) ≡ v
   unfolding boxFaultAt
-  box-answer t plans e f = rw nth-at (sym e ∙ f)
+  box-answer track plans e f = rw nth-at (answered _ _ _ e f)
 
   pub shape-answer : (trains : List TrainPlan) → r ≡ routeShapeFault (getD trains i noTrainPlan .direction) (getD trains i noTrainPlan .length) → r ≡ v → shapeFaultAt trains (i + 1) ≡ v
   unfolding shapeFaultAt
-  shape-answer trains e f = rw nth-at (sym e ∙ f)
+  shape-answer trains e f = rw nth-at (answered _ _ _ e f)
 
 -- The far box of a segment that is none: 0; and of the segment at index i.
 module _ (l : List Segment) (d : ℕ) where
@@ -51,60 +52,54 @@ module _ (l : List Segment) (d : ℕ) where
   far-a i e = rw (add-one, ne-eqb d 0 e)
 
 -- Where code 6 finds nothing, both ends of the segment at index i are at boxes.
-pub record EndsWithin (m x y : ℕ) : Type 0 where
-  pub a-low : 1 ≤ x
-  pub a-high : x ≤ m
-  pub b-low : 1 ≤ y
-  pub b-high : y ≤ m
-
-module _ (n m : ℕ) (t : Track) (none : anyOf n (endsFault m t) ≡ false) where
-  pub ends-within : (i : ℕ) → i < n → EndsWithin m (t .endA (i + 1)) (t .endB (i + 1))
+module _ (n m : ℕ) (track : Track) (none : anyOf n (endsFault m track) ≡ false) where
+  pub ends-within : (i : ℕ) → i < n → BoxOf m (track .endA (i + 1)) × BoxOf m (track .endB (i + 1))
   unfolding endsFault
   ends-within i h =
-      let both = simp (facts, outside-false-iff) at (any-false-at (endsFault m t) n (i + 1) none (omega arith) (omega arith)) in
+      let both = simp (facts, outside-false-iff) at (any-false-at (endsFault m track) n (i + 1) none (omega arith) (omega arith)) in
       omega arith
 
   -- It finds nothing either where there are more boxes.
-  pub ends-more : (p : ℕ) → m ≤ p → anyOf n (endsFault p t) ≡ false
+  pub ends-wider : (p : ℕ) → m ≤ p → anyOf n (endsFault p track) ≡ false
   unfolding endsFault
-  ends-more p k =
-      any-false (endsFault p t) n λ s l h.
-      let (both, differ) = simp (facts, outside-false-iff) at (any-false-at (endsFault m t) n s none l h) in
+  ends-wider p k =
+      any-false (endsFault p track) n λ s l h.
+      let (both, differ) = simp (facts, outside-false-iff) at (any-false-at (endsFault m track) n s none l h) in
       simp (facts, outside-false-iff) (omega arith, differ)
 
 -- Code 8 at a branch s: there is none; it and the stem are at the box by their A ends, or by their B ends; and neither.
-module _ (t : Track) (b stem s : ℕ) where
-  pub no-branch : s ≡ 0 → false ≡ sideFault t b stem s
+module _ (track : Track) (b stem s : ℕ) where
+  pub no-branch : s ≡ 0 → false ≡ sideFault track b stem s
   unfolding sideFault
   no-branch e = search tests
 
   module _ (branch : s ≡ 0 → ⊥) where
-    pub side-a : t .endA stem ≡ b → t .endA s ≡ b → true ≡ sideFault t b stem s
+    pub side-a : track .endA stem ≡ b → track .endA s ≡ b → true ≡ sideFault track b stem s
     unfolding sideFault hasEndA
     side-a e f = search tests depth 8
 
-    pub side-b : t .endB stem ≡ b → t .endB s ≡ b → true ≡ sideFault t b stem s
+    pub side-b : track .endB stem ≡ b → track .endB s ≡ b → true ≡ sideFault track b stem s
     unfolding sideFault hasEndB
     side-b e f = search tests depth 8
 
-    pub side-apart : (t .endA stem ≡ b → t .endA s ≡ b → ⊥) → (t .endB stem ≡ b → t .endB s ≡ b → ⊥)
-        → false ≡ sideFault t b stem s
+    pub side-apart : (track .endA stem ≡ b → track .endA s ≡ b → ⊥) → (track .endB stem ≡ b → track .endB s ≡ b → ⊥)
+        → false ≡ sideFault track b stem s
     unfolding sideFault hasEndA hasEndB
     side-apart e f = sym (simp facts (λ _. (e, f)))
 
 -- What was found at the two boxes of a segment's ends.
 pub listed-at : (plans : List BoxPlan) (x s : ℕ) (r v : Bool) → 1 ≤ x → r ≡ lists (getD plans (x - 1) noBoxPlan) s → r ≡ v → lists (nth plans x noBoxPlan) s ≡ v
-listed-at plans x s r v l e f = ap (λ (p : BoxPlan). lists p s) (nth-before plans x noBoxPlan l) ∙ sym e ∙ f
+listed-at plans x s r v l e f = ap (λ (p : BoxPlan). lists p s) (nth-before plans x noBoxPlan l) ∙ answered _ _ _ e f
 
-module _ (t : Track) (plans : List BoxPlan) (s : ℕ) where
-  pub unlisted-a : lists (nth plans (t .endA s) noBoxPlan) s ≡ false → unlistedFault t plans s ≡ true
+module _ (track : Track) (plans : List BoxPlan) (s : ℕ) where
+  pub unlisted-a : lists (nth plans (track .endA s) noBoxPlan) s ≡ false → unlistedFault track plans s ≡ true
   unfolding unlistedFault
   unlisted-a e = search tests depth 8
 
-  pub unlisted-b : lists (nth plans (t .endB s) noBoxPlan) s ≡ false → unlistedFault t plans s ≡ true
+  pub unlisted-b : lists (nth plans (track .endB s) noBoxPlan) s ≡ false → unlistedFault track plans s ≡ true
   unfolding unlistedFault
   unlisted-b e = search tests depth 8
 
-  pub listed-both : lists (nth plans (t .endA s) noBoxPlan) s ≡ true → lists (nth plans (t .endB s) noBoxPlan) s ≡ true → unlistedFault t plans s ≡ false
+  pub listed-both : lists (nth plans (track .endA s) noBoxPlan) s ≡ true → lists (nth plans (track .endB s) noBoxPlan) s ≡ true → unlistedFault track plans s ≡ false
   unfolding unlistedFault
   listed-both e f = search tests depth 8

@@ -34,7 +34,7 @@ pub fn head_code(version: u16, n: u8, m: u8, k: u8) -> u8
     0
 }
 
-// Codes 6 to 9 of a table record with at most 96 segments and 96 boxes, with the boxes at the A ends and at the B ends of its segments.
+// Codes 6 to 9 of a table record within its limits, by the boxes at the A ends and at the B ends of its segments.
 fn network_code(n: u8, m: u8, plans: [BoxPlan; 96], a: &[u8; 256], b: &[u8; 256]) -> u8
     requires { ⌜ n ≤ 96 ⌝ }
     requires { ⌜ m ≤ 96 ⌝ }
@@ -58,7 +58,7 @@ fn network_code(n: u8, m: u8, plans: [BoxPlan; 96], a: &[u8; 256], b: &[u8; 256]
     0
 }
 
-// Codes 10 to 12 of a table record within its limits, with the same boxes.
+// Codes 10 to 12 of a table record within its limits, by the same boxes.
 fn placing_code(
     n: u8,
     k: u8,
@@ -82,8 +82,8 @@ fn placing_code(
     0
 }
 
-// The code of a table record by its parts, with the boxes at the A ends and at the B ends of segments by their numbers: 3, 4 and 6
-// to 12 in their order, or 0.
+// The code of a table record by its parts and by the boxes at the A ends and at the B ends of segments: 3, 4 and 6 to 12 in their
+// order, or 0.
 pub fn parts_code(
     version: u16,
     n: u8,

@@ -4,8 +4,8 @@ use rules::Segment;
 ghost use mathlib.Core.Path.{_≡_};
 ghost use mathlib.Core.Bool.{false};
 ghost use Prim.Native.Nat.{_≤_};
-ghost use Rattle.rules.specs.Rows.{anyOf, outside, nth};
-ghost use Rattle.rules.specs.Track.{noBoxPlan, trackBy, trackIn, farBox, positionFits};
+ghost use Rattle.rules.specs.Rows.{anyOf, outside};
+ghost use Rattle.rules.specs.Track.{trackBy, trackIn, farBox, positionFits};
 ghost use Rattle.rules.specs.Network.{endsFault, placeFault, branchesFault, planFault, lists, listedFault, sideFault, boxFault, planFaultAt, boxFaultAt, unlistedFault};
 ghost use Rattle.layout.specs.Column.{column};
 
@@ -34,7 +34,7 @@ pub fn far_boxes(segments: [Segment; 96], d: u8) -> [u8; 256]
 }
 
 // Code 6 at segment s.
-fn ends_faulty(m: u8, a: &[u8; 256], b: &[u8; 256], s: u8) -> bool
+fn ends_faulty(m: u8, s: u8, a: &[u8; 256], b: &[u8; 256]) -> bool
     ensures { λ r. ⌜ r ≡ endsFault m (trackIn (now (a .entry)) (now (b .entry))) s ⌝ }
 {
     let x = a[s as usize];
@@ -55,7 +55,7 @@ pub(crate) fn some_ends_faulty(n: u8, m: u8, a: &[u8; 256], b: &[u8; 256]) -> bo
     let mut s: u8 = 0;
     while s < n {
         s += 1;
-        if ends_faulty(m, a, b, s) {
+        if ends_faulty(m, s, a, b) {
             return true;
         }
     }
@@ -135,7 +135,7 @@ pub(crate) fn some_plan_faulty(n: u8, m: u8, plans: [BoxPlan; 96]) -> bool
 }
 
 // Code 8 at a segment s that the box lists: it has no end there.
-fn listed_faulty(a: &[u8; 256], b: &[u8; 256], number: u8, s: u8) -> bool
+fn listed_faulty(number: u8, s: u8, a: &[u8; 256], b: &[u8; 256]) -> bool
     ensures { λ r. ⌜ r ≡ listedFault (trackIn (now (a .entry)) (now (b .entry))) number s ⌝ }
 {
     if s == 0 {
@@ -148,7 +148,7 @@ fn listed_faulty(a: &[u8; 256], b: &[u8; 256], number: u8, s: u8) -> bool
 }
 
 // Code 8 at a branch s: it is on the stem's side of the box.
-fn side_faulty(a: &[u8; 256], b: &[u8; 256], number: u8, stem: u8, s: u8) -> bool
+fn side_faulty(number: u8, stem: u8, s: u8, a: &[u8; 256], b: &[u8; 256]) -> bool
     ensures { λ r. ⌜ r ≡ sideFault (trackIn (now (a .entry)) (now (b .entry))) number stem s ⌝ }
 {
     if s == 0 {
@@ -168,22 +168,22 @@ fn side_faulty(a: &[u8; 256], b: &[u8; 256], number: u8, stem: u8, s: u8) -> boo
 }
 
 // Code 8 at a box.
-fn box_faulty(a: &[u8; 256], b: &[u8; 256], number: u8, p: BoxPlan) -> bool
+fn box_faulty(number: u8, p: BoxPlan, a: &[u8; 256], b: &[u8; 256]) -> bool
     ensures { λ r. ⌜ r ≡ boxFault (trackIn (now (a .entry)) (now (b .entry))) number p ⌝ }
 {
-    if listed_faulty(a, b, number, p.stem) {
+    if listed_faulty(number, p.stem, a, b) {
         return true;
     }
-    if listed_faulty(a, b, number, p.left) {
+    if listed_faulty(number, p.left, a, b) {
         return true;
     }
-    if listed_faulty(a, b, number, p.right) {
+    if listed_faulty(number, p.right, a, b) {
         return true;
     }
-    if side_faulty(a, b, number, p.stem, p.left) {
+    if side_faulty(number, p.stem, p.left, a, b) {
         return true;
     }
-    side_faulty(a, b, number, p.stem, p.right)
+    side_faulty(number, p.stem, p.right, a, b)
 }
 
 // Code 8: some box lists a segment without an end there, or a branch on the stem's side.
@@ -196,7 +196,7 @@ pub(crate) fn some_box_faulty(m: u8, plans: [BoxPlan; 96], a: &[u8; 256], b: &[u
         let i = number as usize;
         number += 1;
         let p = plans[i];
-        if box_faulty(a, b, number, p) {
+        if box_faulty(number, p, a, b) {
             return true;
         }
     }

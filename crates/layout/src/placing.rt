@@ -35,15 +35,15 @@ pub(crate) fn some_shape_faulty(k: u8, trains: [TrainPlan; 16]) -> bool
     false
 }
 
-// Segment s follows the one before it, by the boxes at the near and the far ends of segments.
+// Segment s follows segment `before`: the far end of one and the near end of the other are at one box.
 fn follows(before: u8, s: u8, near: &[u8; 256], far: &[u8; 256]) -> bool
     ensures { λ r. ⌜ r ≡ follows (trackIn (now (near .entry)) (now (far .entry))) 0 before s ⌝ }
 {
     far[before as usize] == near[s as usize]
 }
 
-// Code 11 at some place of a train's route of length r, by the boxes at the near and the far ends of segments. Place 65, which no
-// route has, reads as segment 0.
+// Code 11 of a train's route of length r. The near ends stand for A ends and the far ends for B ends, so that the direction is 0. A
+// longer route than 64 is at fault at place 65, which reads as segment 0.
 fn route_breaks(
     routes: &[u8; 1024],
     train: u8,

@@ -8,7 +8,7 @@ use native.Mathlib.Omega.{arith}
 use borrow.Author.Tests.{lt-ltb, le-ltb}
 use lib.Dec.{ltb}
 use lib.ListN.{length, getD, set, replicate, length-set, length-replicate}
-use Rattle.rules.specs.Track.{Track, trackIn}
+use Rattle.rules.specs.Track.{Track}
 use Rattle.rules.specs.Loop.{SegmentOf, chainEnds, hasLoop}
 use Rattle.rules.proofs.Frames.{set-either}
 use Rattle.rules.proofs.Loop.{segment-ends, box-follows, ends-more, ends-loop, rising-no-loop}
@@ -44,8 +44,8 @@ low-set l i v k h u w =
       low = λ x. set-either (λ y. y ≤ 96) l i x v 0 (λ e. omega arith) (h .low x);
     }
 
-pub low-reached : (n : ℕ) (t : Track) (l : List ℕ) → Low l → Reached n t l
-low-reached n t l h =
+pub low-reached : (n : ℕ) (track : Track) (l : List ℕ) → Low l → Reached n track l
+low-reached n track l h =
     record {
       size = h .size;
       bounded = λ x. omega (arith, h .low x);
@@ -56,31 +56,31 @@ low-reached n t l h =
 number : (n i : ℕ) → i < n → SegmentOf n (i + 1)
 number n i h = record { low = omega arith; high = omega arith }
 
-module _ (n : ℕ) (t : Track) where
+module _ (n : ℕ) (track : Track) where
   -- A segment whose A end has the rank 96 + r ends a chain of r + 1 segments.
-  reach : (l : List ℕ) (s r : ℕ) → Reached n t l → SegmentOf n s → getD l (t .endA s) 0 ≡ 96 + r → List·Memᴰ s (chainEnds n t r)
-  reach l s zero h k e = segment-ends n t s k
+  reach : (l : List ℕ) (s r : ℕ) → Reached n track l → SegmentOf n s → getD l (track .endA s) 0 ≡ 96 + r → List·Memᴰ s (chainEnds n track r)
+  reach l s zero h k e = segment-ends n track s k
   reach l s (suc r) h k e =
-      let c = h .chained (t .endA s) r (omega arith) in
-      ends-more n t r (c .last) s (c .listed) k (box-follows t (c .last) s (c .there))
+      let c = h .chained (track .endA s) r (omega arith) in
+      ends-more n track r (c .last) s (c .listed) k (box-follows track (c .last) s (c .there))
 
   -- What holds of raised ranks still does where the rank at the B end of a segment is set above the one at its A end.
-  reached-raised : (l : List ℕ) (s : ℕ) → Reached n t l → SegmentOf n s → getD l (t .endA s) 0 < n + 96
-      → Reached n t (set l (t .endB s) (getD l (t .endA s) 0 + 1))
+  reached-raised : (l : List ℕ) (s : ℕ) → Reached n track l → SegmentOf n s → getD l (track .endA s) 0 < n + 96
+      → Reached n track (set l (track .endB s) (getD l (track .endA s) 0 + 1))
   reached-raised l s h k u =
-      let v = getD l (t .endA s) 0 + 1 in
+      let v = getD l (track .endA s) 0 + 1 in
       record {
-        size = length-set l (t .endB s) v ∙ h .size;
-        bounded = λ x. set-either (λ y. y ≤ n + 96) l (t .endB s) x v 0 (λ e. omega arith) (h .bounded x);
+        size = length-set l (track .endB s) v ∙ h .size;
+        bounded = λ x. set-either (λ y. y ≤ n + 96) l (track .endB s) x v 0 (λ e. omega arith) (h .bounded x);
         chained = λ x r.
-            set-either (λ y. y ≡ 97 + r → ChainTo n t r x) l (t .endB s) x v 0
+            set-either (λ y. y ≡ 97 + r → ChainTo n track r x) l (track .endB s) x v 0
             (λ e f. record { last = s; listed = reach l s r h k (omega arith); there = sym e }) (h .chained x r);
       }
 
   -- Where the rank at the A end of a segment is 96 + n, there is a loop.
-  high-loop : (l : List ℕ) (s : ℕ) → Reached n t l → SegmentOf n s → n + 96 ≤ getD l (t .endA s) 0 → hasLoop n t ≡ true
+  high-loop : (l : List ℕ) (s : ℕ) → Reached n track l → SegmentOf n s → n + 96 ≤ getD l (track .endA s) 0 → hasLoop n track ≡ true
   high-loop l s h k u =
-      ends-loop n t s (reach l s n h k (omega (arith, h .bounded (t .endA s))))
+      ends-loop n track s (reach l s n h k (omega (arith, h .bounded (track .endA s))))
 
 -- 1 for a pass that raised a rank.
 unfoldable pub steps : Bool → ℕ
@@ -88,18 +88,15 @@ steps false = 0
 steps true = 1
 
 -- A pass that has done the segments below index i: the ranks before it and now, and whether it raised one.
-pub record Passing (n : ℕ) (t : Track) (before after : List ℕ) (raised : Bool) (i : ℕ) : Type 0 where
+pub record Passing (n : ℕ) (track : Track) (before after : List ℕ) (raised : Bool) (i : ℕ) : Type 0 where
   pub within : i ≤ n
-  pub reached : Reached n t after
+  pub reached : Reached n track after
   pub grown : total before + steps raised ≤ total after
-  pub rising : raised ≡ false → (s : ℕ) → 1 ≤ s → s ≤ i → getD after (t .endA s) 0 < getD after (t .endB s) 0
+  pub rising : raised ≡ false → (s : ℕ) → 1 ≤ s → s ≤ i → getD after (track .endA s) 0 < getD after (track .endB s) 0
 
 -- The start of a pass; a segment along which the ranks rise, one along which a rank is raised, one whose A end is too high; and
 -- the end of a pass that raised some rank, and of one that raised none.
-module _ (n : ℕ) (a b l : List ℕ) where
-  abbrev track : Track
-  track = trackIn a b
-
+module _ (n : ℕ) (track : Track) (l : List ℕ) where
   pub passing-start : Reached n track l → Passing n track l l false 0
   unfolding steps
   passing-start h =
@@ -107,7 +104,7 @@ module _ (n : ℕ) (a b l : List ℕ) where
 
   module _ (now : List ℕ) (f : Bool) (i : ℕ) (p : Passing n track l now f i) where
     -- Boxes x and y are those at its ends.
-    module _ (x y : ℕ) (at-a : x ≡ getD a (i + 1) 0) (at-b : y ≡ getD b (i + 1) 0) (h : i < n) where
+    module _ (x y : ℕ) (at-a : x ≡ track .endA (i + 1)) (at-b : y ≡ track .endB (i + 1)) (h : i < n) where
       pub passing-kept : getD now x 0 < getD now y 0 → Passing n track l now f (i + 1)
       passing-kept k =
           record {
@@ -151,23 +148,23 @@ module _ (n : ℕ) (a b l : List ℕ) where
         }
 
 -- More segments than there is room for.
-pub too-many : (n : ℕ) (t : Track) → 96 < n → true ≡ (ltb 96 n || hasLoop n t)
-too-many n t h = rw (lt-ltb 96 n h)
+pub too-many : (n : ℕ) (track : Track) → 96 < n → true ≡ (ltb 96 n || hasLoop n track)
+too-many n track h = rw (lt-ltb 96 n h)
 
 -- The sum that ranks can have; what the end of a pass says of loops; and what is left of that sum, which is less after each pass
 -- that raised a rank.
-reached-total : (n : ℕ) (t : Track) (l : List ℕ) → n ≤ 96 → Reached n t l → total l ≤ 49152
-reached-total n t l few h = omega (arith, total-bounded 192 l (λ x. omega (arith, h .bounded x)))
+reached-total : (n : ℕ) (track : Track) (l : List ℕ) → n ≤ 96 → Reached n track l → total l ≤ 49152
+reached-total n track l few h = omega (arith, total-bounded 192 l (λ x. omega (arith, h .bounded x)))
 
-module _ (n : ℕ) (t : Track) (before after : List ℕ) (pass : Pass) (h : Ended n t before after pass) (few : n ≤ 96) where
-  pub rising-none : pass ≡ Rising → false ≡ (ltb 96 n || hasLoop n t)
+module _ (n : ℕ) (track : Track) (before after : List ℕ) (pass : Pass) (h : Ended n track before after pass) (few : n ≤ 96) where
+  pub rising-none : pass ≡ Rising → false ≡ (ltb 96 n || hasLoop n track)
   unfolding told
   rising-none e = let k = rw e at (h .tells) in rw (le-ltb 96 n few) (sym k)
 
-  pub high-some : pass ≡ TooHigh → true ≡ (ltb 96 n || hasLoop n t)
+  pub high-some : pass ≡ TooHigh → true ≡ (ltb 96 n || hasLoop n track)
   unfolding told
   high-some e = let k = rw e at (h .tells) in rw (le-ltb 96 n few) (sym k)
 
   pub raised-less : pass ≡ Raised → 49152 - total after < 49152 - total before
   unfolding told
-  raised-less e = let k = rw e at (h .tells) in omega (arith, reached-total n t after few (h .reached))
+  raised-less e = let k = rw e at (h .tells) in omega (arith, reached-total n track after few (h .reached))

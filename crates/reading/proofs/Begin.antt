@@ -9,7 +9,7 @@ use native.Mathlib.Numerals.{add-one}
 use native.Mathlib.Omega.{arith}
 use borrow.Author.Tests.{lt-ltb, le-ltb, eq-eqb, ne-eqb}
 use lib.Dec.{eqb}
-use lib.ListN.{length, getD, set, take, replicate, length-set, List·getD-eq-default}
+use lib.ListN.{length, getD, set, take, replicate, length-set}
 use lib.Seq.{ext-getD, getD-set-same, getD-set-other, take-set-lt, set-append-left}
 use Rattle.rules.proofs.Tests.{cond-same}
 use Rattle.rules.specs.declared.Table.{Table}
@@ -20,7 +20,7 @@ use Rattle.rules.specs.declared.SwitchBox.{SwitchBox}
 use Rattle.rules.specs.Rows.{listOf, filled, outside, nth}
 use Rattle.rules.specs.Track.{noSegment, noTrainPlan, noBoxPlan, segmentAt, planAt, trainPlanAt, routeAt, trackOf, trackBy, farOf, farBox}
 use Rattle.rules.specs.Line.{noBox, noTrain, setHolder, startBox, startLine, startTrain, startsOn, startHolder, startBoxWith}
-use Rattle.rules.proofs.Rows.{nth-at, list-length, list-at, list-same, filled-list-at, route-first}
+use Rattle.rules.proofs.Rows.{nth-at, nth-past, list-length, list-at, list-same, filled-list-at, route-first}
 use Rattle.reading.specs.Start.{boxesAfter}
 
 module _ (t : Table) where
@@ -175,9 +175,7 @@ module _ (t : Table) where
   no-segment : (s : ℕ) → length (t .segments) ≡ 96 → (s ≡ 0) ⊎ (96 < s) → segmentAt t s ≡ noSegment
   unfolding segmentAt nth
   no-segment s h (inl z) = rw z
-  no-segment s h (inr l) =
-      let e : s ≡ s - 1 + 1 = omega arith in
-      rw e (nth-at (t .segments) (s - 1) noSegment ∙ List·getD-eq-default (t .segments) noSegment (omega arith))
+  no-segment s h (inr l) = nth-past (t .segments) s noSegment (omega arith)
 
   far-of : (d s : ℕ) (x : Segment) → segmentAt t s ≡ x → farBox (trackOf t) d s ≡ farOf d (x .a) (x .b)
   unfolding farBox trackBy segmentAt

@@ -13,7 +13,7 @@ use Rattle.rules.specs.Rows.{anyOf, nth, outside}
 use Rattle.rules.specs.Track.{noBoxPlan, planAt, trainPlanAt, routeAt, Track, trackOf, nearBox, farBox, follows, isPoint, positionFits}
 use Rattle.rules.specs.Loop.{SegmentOf, Loop}
 use Rattle.rules.specs.Network.{knownVersion, limitsFault, endsFault, placeFault, branchesFault, planFault, lists, hasEndA, hasEndB, listedFault, sideFault, boxFault, planFaultAt, boxFaultAt, unlistedFault, headRows, networkRows}
-use Rattle.rules.specs.Placing.{routeShapeFault, routePlaceFault, routeFault, startFault, shapeFaultAt, routeFaultAt, placingRows, partRows, partsCode, tableCode}
+use Rattle.rules.specs.Placing.{routeShapeFault, routePlaceFault, routeFault, startFault, shapeFaultAt, routeFaultAt, placingRows, partsCode, tableCode}
 use Rattle.rules.specs.Safety.{TrainOf, onRoute}
 use Rattle.rules.proofs.Tests.{facts, or-true-iff, eqb-true-iff, leb-true-iff, outside-false-iff, first-none, first-zero-iff}
 use Rattle.rules.proofs.Rows.{any-false-iff, once}
@@ -120,33 +120,33 @@ pub any-train-iff : (t : Table) (f : ℕ → Bool) → (anyOf (t .k) f ≡ false
 any-train-iff t f = simp any-false-iff (λ e i h. e i (h .low) (h .high), λ e i l h. e i (omega arith))
 
 -- What holds of A ends and of B ends holds of the ends of every direction.
-each-end : (t : Track) (P : (ℕ → ℕ) → Type 0) → P (t .endA) → P (t .endB) → (d : ℕ) → P (λ s. nearBox t d s)
+each-end : (track : Track) (P : (ℕ → ℕ) → Type 0) → P (track .endA) → P (track .endB) → (d : ℕ) → P (λ s. nearBox track d s)
 unfolding nearBox
-each-end t P a b zero = a
-each-end t P a b (suc d) = rw eqb·suc-zero b
+each-end track P a b zero = a
+each-end track P a b (suc d) = rw eqb·suc-zero b
 
 -- The far end for one direction is the near end for the other.
 abbrev pub back : ℕ → ℕ
 back zero = 1
 back (suc d) = 0
 
-pub far-back : (t : Track) (d s : ℕ) → farBox t d s ≡ nearBox t (back d) s
+pub far-back : (track : Track) (d s : ℕ) → farBox track d s ≡ nearBox track (back d) s
 unfolding farBox nearBox
-far-back t zero s = refl
-far-back t (suc d) s = rw eqb·suc-zero
+far-back track zero s = refl
+far-back track (suc d) s = rw eqb·suc-zero
 
-pub near-back : (t : Track) (d s : ℕ) → nearBox t d s ≡ farBox t (back d) s
+pub near-back : (track : Track) (d s : ℕ) → nearBox track d s ≡ farBox track (back d) s
 unfolding farBox nearBox
-near-back t zero s = refl
-near-back t (suc d) s = rw eqb·suc-zero
+near-back track zero s = refl
+near-back track (suc d) s = rw eqb·suc-zero
 
 -- Each end of a segment is its near or its far end for a train of direction d.
-pub either-end : (t : Track) (s d e : ℕ) → (nearBox t d s ≡ nearBox t e s) ⊎ (farBox t d s ≡ nearBox t e s)
+pub either-end : (track : Track) (s d e : ℕ) → (nearBox track d s ≡ nearBox track e s) ⊎ (farBox track d s ≡ nearBox track e s)
 unfolding nearBox farBox
-either-end t s zero zero = inl refl
-either-end t s zero (suc e) = inr (simp eqb·suc-zero)
-either-end t s (suc d) zero = inr (simp eqb·suc-zero)
-either-end t s (suc d) (suc e) = inl (simp eqb·suc-zero)
+either-end track s zero zero = inl refl
+either-end track s zero (suc e) = inr (simp eqb·suc-zero)
+either-end track s (suc d) zero = inr (simp eqb·suc-zero)
+either-end track s (suc d) (suc e) = inl (simp eqb·suc-zero)
 
 -- Each condition on the records: its test finds nothing exactly where the fact holds. Code 4.
 pub limits-iff : (n m k : ℕ) → (limitsFault n m k ≡ false) ↔ Limits n m k
@@ -154,15 +154,15 @@ unfolding limitsFault
 limits-iff n m k = simp (facts, outside-false-iff) (omega arith)
 
 -- Code 6.
-ends-iff : (m : ℕ) (t : Track) (s : ℕ) → (endsFault m t s ≡ false) ↔ Ends m t s
+ends-iff : (m : ℕ) (track : Track) (s : ℕ) → (endsFault m track s ≡ false) ↔ Ends m track s
 unfolding endsFault nearBox farBox
-ends-iff m t s =
+ends-iff m track s =
     simp (facts, box-iff) (
-      λ e. record { box = each-end t (λ f. BoxOf m (f s)) (e .0 .0) (e .0 .1); differ = differ e.1 },
+      λ e. record { box = each-end track (λ f. BoxOf m (f s)) (e .0 .0) (e .0 .1); differ = differ e.1 },
       λ h. ((h .box 0, h .box 1), h .differ 0),
     )
   where
-    differ : t .endA s ≢ t .endB s → (d : ℕ) → nearBox t d s ≢ farBox t d s
+    differ : track .endA s ≢ track .endB s → (d : ℕ) → nearBox track d s ≢ farBox track d s
     differ h zero = h
     differ h (suc d) = rw eqb·suc-zero (Ne·symm h)
 
@@ -214,55 +214,55 @@ each-branch p P l r y s (onLeft f e) = rw e at l
 each-branch p P l r y s (onRight f e) = rw e at r
 
 -- Code 8: a segment with an end at a box, a listed segment, a branch, and all that a box lists.
-end-iff : (t : Track) (s b : ℕ) → ((hasEndA t s b || hasEndB t s b) ≡ true) ↔ EndAt t s b
+end-iff : (track : Track) (s b : ℕ) → ((hasEndA track s b || hasEndB track s b) ≡ true) ↔ EndAt track s b
 unfolding hasEndA hasEndB nearBox
-end-iff t s b =
+end-iff track s b =
     Iff·trans
-    (or-true-iff (hasEndA t s b) (hasEndB t s b) (eqb-true-iff (t .endA s) b) (eqb-true-iff (t .endB s) b))
+    (or-true-iff (hasEndA track s b) (hasEndB track s b) (eqb-true-iff (track .endA s) b) (eqb-true-iff (track .endB s) b))
     (⊎-elim (λ e. record { direction = 0; there = e }) (λ e. record { direction = 1; there = e }), λ h. from (h .direction) (h .there))
   where
-    from : (d : ℕ) → nearBox t d s ≡ b → (t .endA s ≡ b) ⊎ (t .endB s ≡ b)
+    from : (d : ℕ) → nearBox track d s ≡ b → (track .endA s ≡ b) ⊎ (track .endB s ≡ b)
     from zero e = inl e
     from (suc d) e = inr (rw eqb·suc-zero at e)
 
-listed-iff : (t : Track) (b s : ℕ) → (listedFault t b s ≡ false) ↔ (s ≢ 0 → EndAt t s b)
+listed-iff : (track : Track) (b s : ℕ) → (listedFault track b s ≡ false) ↔ (s ≢ 0 → EndAt track s b)
 unfolding listedFault
-listed-iff t b s = simp (facts, end-iff) Iff·rfl
+listed-iff track b s = simp (facts, end-iff) Iff·rfl
 
-side-iff : (t : Track) (b stem s : ℕ) → (sideFault t b stem s ≡ false) ↔ (s ≢ 0 → (d : ℕ) → nearBox t d stem ≡ b → nearBox t d s ≢ b)
+side-iff : (track : Track) (b stem s : ℕ) → (sideFault track b stem s ≡ false) ↔ (s ≢ 0 → (d : ℕ) → nearBox track d stem ≡ b → nearBox track d s ≢ b)
 unfolding sideFault hasEndA hasEndB nearBox
-side-iff t b stem s =
+side-iff track b stem s =
     simp facts
-    (λ e n. each-end t (λ f. f stem ≡ b → f s ≢ b) (e n .0) (e n .1), λ h n. (h n 0, h n 1))
+    (λ e n. each-end track (λ f. f stem ≡ b → f s ≢ b) (e n .0) (e n .1), λ h n. (h n 0, h n 1))
 
-sides-iff : (t : Track) (b : ℕ) (p : BoxPlan) → (boxFault t b p ≡ false) ↔ Sides t b p
+sides-iff : (track : Track) (b : ℕ) (p : BoxPlan) → (boxFault track b p ≡ false) ↔ Sides track b p
 unfolding boxFault
-sides-iff t b p =
+sides-iff track b p =
     simp (facts, listed-iff, side-iff) (
       λ ((((stem, left), right), leftSide), rightSide).
           record {
-            ends = λ s l. ⊎-elim (λ e. rw e at stem) (λ (y, e). each-branch p (λ s. s ≢ 0 → EndAt t s b) left right y s e) (lists-iff p s .0 l);
-            opposite = each-branch p (λ s. s ≢ 0 → (d : ℕ) → nearBox t d (p .stem) ≡ b → nearBox t d s ≢ b) leftSide rightSide;
+            ends = λ s l. ⊎-elim (λ e. rw e at stem) (λ (y, e). each-branch p (λ s. s ≢ 0 → EndAt track s b) left right y s e) (lists-iff p s .0 l);
+            opposite = each-branch p (λ s. s ≢ 0 → (d : ℕ) → nearBox track d (p .stem) ≡ b → nearBox track d s ≢ b) leftSide rightSide;
           },
       λ h.
-          let ends : (s : ℕ) → Stands p s → s ≢ 0 → EndAt t s b = λ s l. h .ends s (lists-iff p s .1 l) in
+          let ends : (s : ℕ) → Stands p s → s ≢ 0 → EndAt track s b = λ s l. h .ends s (lists-iff p s .1 l) in
           let left : Branch p 1 (p .left) = onLeft refl refl in
           let right : Branch p 2 (p .right) = onRight refl refl in
           ((((ends _ (inl refl), ends _ (inr (1, left))), ends _ (inr (2, right))), h .opposite 1 _ left), h .opposite 2 _ right),
     )
 
 -- Code 8: the ends of a segment.
-listing-iff : (t : Track) (plans : List BoxPlan) (s : ℕ)
-    → (unlistedFault t plans s ≡ false) ↔ ((d : ℕ) → lists (nth plans (nearBox t d s) noBoxPlan) s ≡ true)
+listing-iff : (track : Track) (plans : List BoxPlan) (s : ℕ)
+    → (unlistedFault track plans s ≡ false) ↔ ((d : ℕ) → lists (nth plans (nearBox track d s) noBoxPlan) s ≡ true)
 unfolding unlistedFault nearBox
-listing-iff t plans s = simp facts
-    (λ e. each-end t (λ f. lists (nth plans (f s) noBoxPlan) s ≡ true) (e .0) (e .1), λ h. (h 0, h 1))
+listing-iff track plans s = simp facts
+    (λ e. each-end track (λ f. lists (nth plans (f s) noBoxPlan) s ≡ true) (e .0) (e .1), λ h. (h 0, h 1))
 
 -- Codes 10 and 11: the shape and the places of a route.
-pub routed-iff : (n : ℕ) (t : Track) (routes : List ℕ) (i d r : ℕ)
-    → ((routeShapeFault d r ≡ false) × (routeFault n t routes i d r ≡ false)) ↔ Routed n t routes i d r
+pub routed-iff : (n : ℕ) (track : Track) (routes : List ℕ) (i d r : ℕ)
+    → ((routeShapeFault d r ≡ false) × (routeFault n track routes i d r ≡ false)) ↔ Routed n track routes i d r
 unfolding routeShapeFault routeFault routePlaceFault
-routed-iff n t routes i d r =
+routed-iff n track routes i d r =
     simp (facts, any-false-iff, outside-false-iff 64, segment-iff n) (
       λ ((direction, (low, high)), places).
           record {
@@ -308,7 +308,7 @@ faultless t a i h = routed-iff (t .n) (trackOf t) (t .routes) i _ _ .1 (a .route
 
 -- A table is accepted exactly where its code is 0.
 pub accepted-iff : (t : Table) → (tableCode t ≡ 0) ↔ Accepted t
-unfolding tableCode partsCode partRows headRows networkRows placingRows planFaultAt boxFaultAt shapeFaultAt routeFaultAt planAt trainPlanAt
+unfolding tableCode partsCode headRows networkRows placingRows planFaultAt boxFaultAt shapeFaultAt routeFaultAt planAt trainPlanAt
 accepted-iff t =
     simp
     (facts, first-zero-iff, first-none, any-segment-iff, any-box-iff, any-train-iff, limits-iff, ends-iff, plan-iff, sides-iff, listing-iff, no-loop-iff) (

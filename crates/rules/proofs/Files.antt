@@ -8,7 +8,7 @@ use native.Mathlib.Omega.{arith}
 use lib.ListN.{length}
 use Rattle.rules.specs.declared.Table.{Table}
 use Rattle.rules.specs.Network.{headRows}
-use Rattle.rules.specs.Placing.{tableCode, partRows, partsCode}
+use Rattle.rules.specs.Placing.{tableCode, partsCode}
 use Rattle.rules.specs.File.{earlyRows, headSize, marked, fileLength, decode, fileCode, encode, writeCode}
 use Rattle.rules.proofs.Tests.{facts, first-none, first-zero-iff, first-code-iff}
 use Rattle.rules.proofs.Accepted.{Accepted, accepted, accepted-code}
@@ -21,7 +21,7 @@ pub record AcceptedFile (bytes : List ℕ) : Type 0 where
   pub table : Accepted (decode bytes)
 
 pub file-iff : (bytes : List ℕ) → (fileCode bytes ≡ 0) ↔ AcceptedFile bytes
-unfolding fileCode earlyRows tableCode partsCode partRows headRows decode
+unfolding fileCode earlyRows tableCode partsCode headRows decode
 file-iff bytes =
     simp (facts, first-zero-iff) (
       λ (long, (mark, (version, (limits, (whole, rest))))).

@@ -6,7 +6,7 @@ pub mod Rows
 pub mod Loop
 -- What holds of an accepted table.
 pub mod Accepted
--- A route of an accepted table passes each segment and each box once.
+-- On a track without a loop a route passes each segment and each box once.
 pub mod Routes
 -- How the boxes of an accepted table join its segments.
 pub mod Boxes

@@ -18,7 +18,7 @@ use Rattle.rules.specs.Track.{planAt, positionFits, trackOf, pointAt}
 use Rattle.rules.specs.declared.Around.{Around}
 use Rattle.rules.specs.Line.{aroundTrain, boxAt, trainAt}
 use Rattle.rules.specs.Steps.{mostCovered, addressRows}
-use Rattle.rules.specs.Record.{answerCode, addressFault, messageFault, trainFault, switchBoxFault, trainsFault, boxesFault, recordFault}
+use Rattle.rules.specs.Record.{answerCode, addressFault, messageFault, trainFault, switchBoxFault, trainsFault, switchBoxesFault, recordFault}
 use Rattle.rules.specs.Safety.{TrainOf}
 use Rattle.rules.specs.Invariant.{Open, sent, answered}
 use Rattle.rules.proofs.Tests.{facts}
@@ -99,7 +99,7 @@ box-sound-iff k p x =
     )
 
 pub sound-iff : (l : Line) → (recordFault l ≡ false) ↔ LineSound l
-unfolding recordFault trainsFault boxesFault planAt boxAt trainAt
+unfolding recordFault trainsFault switchBoxesFault planAt boxAt trainAt
 sound-iff l =
     simp (facts, any-train-iff, any-box-iff, accepted-iff, train-iff, box-sound-iff) (
       λ ((table, trains), boxes).

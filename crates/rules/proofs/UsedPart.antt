@@ -14,7 +14,7 @@ use Rattle.rules.specs.Rows.{anyOf, nth, listOf, joinOf, filled}
 use Rattle.rules.specs.Track.{noSegment, noBoxPlan, noTrainPlan, segmentAt, planAt, trainPlanAt, routeAt, trackOf, trackBy, farBox, nearBox, follows}
 use Rattle.rules.specs.Loop.{hasLoop}
 use Rattle.rules.specs.Network.{endsFault, planFault, hasEndA, hasEndB, listedFault, sideFault, boxFault, planFaultAt, boxFaultAt, unlistedFault, headRows, networkRows}
-use Rattle.rules.specs.Placing.{routeShapeFault, routePlaceFault, routeFault, startFault, shapeFaultAt, routeFaultAt, placingRows, partRows, partsCode, tableCode}
+use Rattle.rules.specs.Placing.{routeShapeFault, routePlaceFault, routeFault, startFault, shapeFaultAt, routeFaultAt, placingRows, partsCode, tableCode}
 use Rattle.rules.specs.File.{usedPart}
 use Rattle.rules.proofs.Rows.{any-same, filled-length, filled-same, join-at, list-at, filled-nth}
 use Rattle.rules.proofs.Loop.{loop-same}
@@ -125,7 +125,7 @@ module _ (t u : Table) (same : SameUse t u) (ok : Accepted t) where
 
   -- So the other has the same code.
   same-code : tableCode u ≡ tableCode t
-  unfolding tableCode partsCode partRows headRows networkRows placingRows planFaultAt boxFaultAt shapeFaultAt routeFaultAt planAt trainPlanAt
+  unfolding tableCode partsCode headRows networkRows placingRows planFaultAt boxFaultAt shapeFaultAt routeFaultAt planAt trainPlanAt
   same-code =
       rw (
         test-same (same .n) ends-same,

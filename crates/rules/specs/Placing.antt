@@ -47,7 +47,7 @@ placingRows n k track trains routes =
     ∷ []
 
 -- What comes after a table's head, over the table's parts and for a table: codes 6 to 12. The reader puts code 5 before it.
-unfoldable pub partRows : ℕ → ℕ → ℕ → Track → List BoxPlan → List TrainPlan → List ℕ → List Row
+abbrev pub partRows : ℕ → ℕ → ℕ → Track → List BoxPlan → List TrainPlan → List ℕ → List Row
 partRows n m k track plans trains routes = networkRows n m track plans ++ placingRows n k track trains routes
 
 abbrev pub conditionRows : Table → List Row

@@ -62,8 +62,8 @@ switchBoxFault k p x =
 unfoldable pub trainsFault : ℕ → ℕ → Track → (ℕ → Bool) → List ℕ → List Train → Bool
 trainsFault n k track point routes trains = anyOf k (λ i. trainFault n track point routes i (nth trains i noTrain))
 
-unfoldable pub boxesFault : ℕ → ℕ → List BoxPlan → List SwitchBox → Bool
-boxesFault k m plans boxes = anyOf m (λ b. switchBoxFault k (nth plans b noBoxPlan) (nth boxes b noBox))
+unfoldable pub switchBoxesFault : ℕ → ℕ → List BoxPlan → List SwitchBox → Bool
+switchBoxesFault k m plans boxes = anyOf m (λ b. switchBoxFault k (nth plans b noBoxPlan) (nth boxes b noBox))
 
 -- Code 27. Only trains 1 to k and boxes 1 to m are looked at.
 unfoldable pub recordFault : Line → Bool
@@ -71,7 +71,7 @@ recordFault l =
     let t = l .table in
     not (eqb (tableCode t) 0)
     || trainsFault (t .n) (t .k) (trackOf t) (pointAt t) (l .routes) (l .trains)
-    || boxesFault (t .k) (t .m) (t .boxes) (l .boxes)
+    || switchBoxesFault (t .k) (t .m) (t .boxes) (l .boxes)
 
 -- A single step on any record: 27 first, then the step.
 unfoldable pub checkedStep : Line → Step → Outcome

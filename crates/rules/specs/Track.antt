@@ -44,14 +44,14 @@ pub record Track : Type 0 where
   pub endA : ℕ → ℕ
   pub endB : ℕ → ℕ
 
--- Those of a list of segments, and of a table.
+-- The track of a list of segments, and of a table.
 unfoldable pub trackBy : List Segment → Track
 trackBy l = record { endA = λ s. nth l s noSegment .a; endB = λ s. nth l s noSegment .b }
 
 abbrev pub trackOf : Table → Track
 trackOf t = trackBy (t .segments)
 
--- Those of two lists, which have at index s the boxes of segment s.
+-- The track of two lists, which have at index s the boxes of segment s.
 abbrev pub trackIn : List ℕ → List ℕ → Track
 trackIn a b = record { endA = λ s. getD a s 0; endB = λ s. getD b s 0 }
 

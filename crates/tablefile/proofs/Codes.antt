@@ -9,7 +9,7 @@ use lib.Dec.{eqb}
 use lib.ListN.{length}
 use Rattle.rules.specs.Rows.{Row, _if_, first}
 use Rattle.rules.specs.Network.{headRows, limitsFault}
-use Rattle.rules.specs.Placing.{tableCode, partRows, partsCode}
+use Rattle.rules.specs.Placing.{tableCode, partsCode}
 use Rattle.rules.specs.File.{marked, versionIn, segmentCount, boxCount, trainCount, fileLength, fileCode, decode, earlyRows}
 use Rattle.rules.proofs.Tests.{tests, facts, outside-false-iff, not-of-true, not-of-false, first-none, first-zero-iff, first-hit, first-skip, first-before}
 use Rattle.tablefile.specs.Whole.{earlyCode, Whole}
@@ -63,7 +63,7 @@ module _ (bytes : List ℕ) where
   file-early n = first-before _ _ n
 
   pub file-late : earlyCode bytes ≡ 0 → tableCode (decode bytes) ≡ fileCode bytes
-  unfolding fileCode tableCode partsCode partRows decode earlyCode earlyRows headRows
+  unfolding fileCode tableCode partsCode decode earlyCode earlyRows headRows
   file-late e =
       let (long, (mark, (version, (limits, (exact, _))))) = simp first-zero-iff at e in
       sym (first-skip _ _ _ version (first-skip _ _ _ limits refl))

@@ -1,6 +1,6 @@
--- What stands around a train: looked up by the code, and on the columns of a table.
+-- What stands around a train, looked up by the code; and the points of a table, in the column of kinds.
 pub mod Sights
-pub mod Around
+pub mod Points
 -- What the rows of a request and of Enter say.
 pub mod RequestRows
 pub mod EnterRows

@@ -44,14 +44,14 @@ train-past routes (suc i) (suc p) e h =
     rw none (sym (cond-same (ltb p 64) 0))
 
 -- What stands around a train, from its parts.
-pub around-of : (track : Track) (points : ℕ → Bool) (routes : List ℕ) (i : ℕ) (r : Train) (v : Around) (t u : ℕ)
+pub around-of : (track : Track) (points : ℕ → Bool) (routes : List ℕ) (i : ℕ) (r : Train) (v : Around) (p q : ℕ)
     → v .number ≡ i
     → v .front ≡ routeAt routes i (r .place)
     → v .next ≡ routeAt routes i (r .place + 1)
-    → t ≡ r .place + 1 - r .covered
-    → v .tail ≡ routeAt routes i t
-    → u ≡ r .place + 2 - r .covered
-    → v .second ≡ routeAt routes i u
+    → p ≡ r .place + 1 - r .covered
+    → v .tail ≡ routeAt routes i p
+    → q ≡ r .place + 2 - r .covered
+    → v .second ≡ routeAt routes i q
     → v .ahead ≡ farBox track (r .direction) (v .front)
     → v .point ≡ points (v .ahead)
     → v .nearEnd ≡ nearBox track (r .direction) (v .next)
@@ -59,5 +59,5 @@ pub around-of : (track : Track) (points : ℕ → Bool) (routes : List ℕ) (i :
     → v .passed ≡ farBox track (r .direction) (v .tail)
     → v ≡ aroundOn track points routes i r
 unfolding aroundOn
-around-of track points routes i r v t u number front next e tail f second ahead point nearEnd farEnd passed =
+around-of track points routes i r v p q number front next e tail f second ahead point nearEnd farEnd passed =
     rw (← front, ← next, ← e, ← tail, ← f, ← second, ← ahead, ← point, ← nearEnd, ← farEnd, ← passed, ← number)

@@ -13,6 +13,6 @@ use Rattle.rules.specs.Line.{aroundOn}
 unfoldable pub kindOf : List BoxPlan → ℕ → ℕ
 kindOf plans b = nth plans b noBoxPlan .kind
 
--- What stands around a train, by columns.
+-- `aroundOn` of `rules`, on these columns.
 abbrev pub aroundIn : List ℕ → List ℕ → List ℕ → List ℕ → ℕ → Train → Around
 aroundIn a b kinds = aroundOn (trackIn a b) (pointIn kinds)

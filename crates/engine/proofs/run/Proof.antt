@@ -2,7 +2,6 @@
 use native.Mathlib.Omega.{arith}
 use borrow.Author.Needs.{needs}
 use Rattle.rules.specs.Run.{stepCount}
-use Rattle.engine.proofs.Turn.{columns-made}
 use Rattle.engine.proofs.Runs.{run-refused, run-short, run-done, counted}
 use Rattle.engine.proofs.run.Statement.{statement}
 use Rattle.engine.proofs.run.Tie as tie
@@ -32,7 +31,7 @@ advance-requires c κs =
       omega (arith, enough .if2 .left, counts .count .ensures),
       (
         counted _ _ (read .read .ensures) (counts .before .if1 .left),
-        columns-made _ (kinds .before .before .far-boxes .ensures) (kinds .before .far-boxes2 .ensures) (kinds .kinds .ensures),
+        record { ends-a = kinds .before .before .far-boxes .ensures; ends-b = kinds .before .far-boxes2 .ensures; kinds-of = kinds .kinds .ensures },
       ),
     )
 

@@ -6,7 +6,6 @@ use lib.ListN.{length}
 use Rattle.rules.specs.Steps.{Step}
 use Rattle.rules.specs.Run.{stepCount}
 use Rattle.rules.proofs.Rows.{length-mapped}
-use Rattle.engine.proofs.Turn.{columns-made}
 use Rattle.engine.proofs.Single.{Coded, Passed, table-faulty, train-faulty, box-faulty, passed-trains, single-taken}
 use Rattle.engine.proofs.step.Statement.{statement}
 use Rattle.engine.proofs.step.Tie as tie
@@ -33,7 +32,7 @@ coded : (c : tie.After-parts-code)
 coded c =
     let kinds = c .before .before .before .before .before in
     record {
-      columns = columns-made _ (kinds .before .before .far-boxes .ensures) (kinds .before .far-boxes2 .ensures) (kinds .kinds .ensures);
+      columns = record { ends-a = kinds .before .before .far-boxes .ensures; ends-b = kinds .before .far-boxes2 .ensures; kinds-of = kinds .kinds .ensures };
       segments = segments-sized (start c);
       plans = plans-sized (start c);
       code = c .parts-code .ensures;

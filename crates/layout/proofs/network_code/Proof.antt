@@ -2,11 +2,11 @@
 use mathlib.Core.Path.{_≡_}
 use mathlib.Core.Bool.{false}
 use borrow.Author.Needs.{needs}
-use Rattle.rules.specs.Rows.{anyOf, nth}
-use Rattle.rules.specs.Track.{noBoxPlan, trackIn}
-use Rattle.rules.specs.Network.{endsFault, planFault, boxFault, planFaultAt, boxFaultAt, unlistedFault}
+use Rattle.rules.specs.Rows.{anyOf}
+use Rattle.rules.specs.Track.{trackIn}
+use Rattle.rules.specs.Network.{endsFault, planFaultAt, boxFaultAt, unlistedFault}
 use Rattle.rules.proofs.Tests.{answered}
-use Rattle.layout.proofs.Laws.{ends-more}
+use Rattle.layout.proofs.Laws.{ends-wider}
 use Rattle.layout.proofs.Codes.{network-6, network-7, boxes-8, segments-8, network-9, network-0}
 use Rattle.layout.proofs.network_code.Statement.{statement}
 use Rattle.layout.proofs.network_code.Tie as tie
@@ -57,7 +57,7 @@ returns-3 c =
 some-unlisted-requires : tie.Need-some-unlisted-requires
 some-unlisted-requires c κs =
     let ends = c .before .before .before .before in
-    ends-more _ _ _ (ends-fine ends) 96 (ends .before .before .pre .1)
+    ends-wider _ _ _ (ends-fine ends) 96 (ends .before .before .pre .1)
 
 returns-4 : tie.Need-returns-4
 returns-4 c =

@@ -17,13 +17,10 @@ raised-again : tie.Need-loop-again Inv-loop μ-loop
 raised-again c =
     let p = c .before .before .before .before in
     let q = p .before .before .before .before in
-    let s = q .before .before in
-    passing-raised _ (s .args .a .now) (s .args .b .now) _ _ _ _ (q .before .loop .inv) _ _ (p .before .before .index .ensures .0) (p .index2 .ensures .0) (q .loop-test .taken) (p .index2 .ensures .1) (omega arith) (c .if2 .left)
+    passing-raised _ _ _ _ _ _ (q .before .loop .inv) _ _ (p .before .before .index .ensures .0) (p .index2 .ensures .0) (q .loop-test .taken) (p .index2 .ensures .1) (omega arith) (c .if2 .left)
 
 raised-end : tie.Need-returns-2 Inv-loop μ-loop
-raised-end c =
-    let start = c .before .before .before in
-    passed-raised _ (start .args .a .now) (start .args .b .now) _ _ _ _ (c .before .before .loop .inv) (c .if3 .taken)
+raised-end c = passed-raised _ _ _ _ _ _ (c .before .before .loop .inv) (c .if3 .taken)
 
 pub raise-spec : {M : Type 1} → statement M
 raise-spec =

@@ -6,7 +6,7 @@ use borrow.Author.Tests.{lt-ltb, le-ltb}
 use Rattle.rules.specs.Rows.{nth}
 use Rattle.rules.specs.Track.{noBoxPlan}
 use Rattle.rules.specs.Line.{noBox}
-use Rattle.rules.specs.Record.{switchBoxFault, boxesFault}
+use Rattle.rules.specs.Record.{switchBoxFault, switchBoxesFault}
 use Rattle.rules.proofs.Tests.{is-true, or-left, or-last}
 use Rattle.rules.proofs.Rows.{NoneYet, none-start, none-turn, none-found, none-done}
 use Rattle.checking.proofs.Laws.{box-answer}
@@ -23,7 +23,7 @@ returns : tie.Need-returns Inv-loop μ-loop
 returns c = is-true _ (or-left _ _ (lt-ltb _ _ (c .if1 .taken)))
 
 returns-2 : tie.Need-returns-2 Inv-loop μ-loop
-unfolding boxesFault
+unfolding switchBoxesFault
 returns-2 c =
     or-last _ _ _ (le-ltb _ _ (c .before .before .before .before .before .before .if1 .left)) (none-found _ _ (c .before .before .before .before .before .loop .i) (omega arith) (box-answer _ _ _ _ _ _ (c .before .box-faulty .ensures) (c .if2 .taken)))
 
@@ -32,7 +32,7 @@ loop-again c =
     none-turn _ _ (c .before .before .before .before .before .loop .i) (c .before .before .before .before .before .loop .inv) (omega arith) (box-answer _ _ _ _ _ _ (c .before .box-faulty .ensures) (c .if2 .left))
 
 returns-3 : tie.Need-returns-3 Inv-loop μ-loop
-unfolding boxesFault
+unfolding switchBoxesFault
 returns-3 c = or-last _ _ _ (le-ltb _ _ (c .before .before .if1 .left)) (none-done _ _ (c .before .loop .i) (c .before .loop .inv) (omega arith))
 
 pub some-box-faulty-spec : {M : Type 1} → statement M

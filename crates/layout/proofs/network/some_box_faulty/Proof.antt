@@ -1,9 +1,8 @@
 -- The loop has found nothing among the boxes before.
 use Prim.Native.Nat.{_-_}
 use borrow.Author.Needs.{needs}
-use Rattle.rules.specs.Rows.{nth}
-use Rattle.rules.specs.Track.{noBoxPlan, trackIn}
-use Rattle.rules.specs.Network.{boxFault, planFaultAt, boxFaultAt}
+use Rattle.rules.specs.Track.{trackIn}
+use Rattle.rules.specs.Network.{boxFaultAt}
 use Rattle.rules.proofs.Rows.{NoneYet, none-start, none-turn, none-found, none-done}
 use Rattle.layout.proofs.Laws.{box-answer}
 use Rattle.layout.proofs.network.some_box_faulty.Statement.{statement}

@@ -2,9 +2,7 @@
 use Prim.Native.Nat.{_-_}
 use borrow.Author.Needs.{needs}
 use Rattle.rules.proofs.Rows.{NoneYet, none-start, none-turn, none-found, none-done}
-use Rattle.rules.specs.Rows.{nth}
-use Rattle.rules.specs.Track.{noBoxPlan}
-use Rattle.rules.specs.Network.{planFault, planFaultAt}
+use Rattle.rules.specs.Network.{planFaultAt}
 use Rattle.layout.proofs.Laws.{plan-answer}
 use Rattle.layout.proofs.network.some_plan_faulty.Statement.{statement}
 use Rattle.layout.proofs.network.some_plan_faulty.Tie as tie

@@ -41,16 +41,16 @@ array-copy-out-q : tie.Need-array-copy-out-q Inv-loop μ-loop
 array-copy-out-q c = omega (arith, ends-within _ 96 _ (c .before .before .before .before .before .pre) _ (c .before .before .before .loop-test .taken))
 
 returns : tie.Need-returns Inv-loop μ-loop
-returns c = none-found _ _ _ (c .before .before .before .before .before .before .loop-test .taken) (unlisted-a _ _ _ (listed-at _ _ _ _ _ (ends-within _ 96 _ (c .before .before .before .before .before .before .before .before .pre) _ (c .before .before .before .before .before .before .loop-test .taken) .a-low) (c .before .lists .ensures) (not-true _ (c .if1 .taken))))
+returns c = none-found _ _ _ (c .before .before .before .before .before .before .loop-test .taken) (unlisted-a _ _ _ (listed-at _ _ _ _ _ (ends-within _ 96 _ (c .before .before .before .before .before .before .before .before .pre) _ (c .before .before .before .before .before .before .loop-test .taken) .0 .low) (c .before .lists .ensures) (not-true _ (c .if1 .taken))))
 
 returns-2 : tie.Need-returns-2 Inv-loop μ-loop
-returns-2 c = none-found _ _ _ (c .before .before .before .before .before .before .before .before .loop-test .taken) (unlisted-b _ _ _ (listed-at _ _ _ _ _ (ends-within _ 96 _ (c .before .before .before .before .before .before .before .before .before .before .pre) _ (c .before .before .before .before .before .before .before .before .loop-test .taken) .b-low) (c .before .lists2 .ensures) (not-true _ (c .if2 .taken))))
+returns-2 c = none-found _ _ _ (c .before .before .before .before .before .before .before .before .loop-test .taken) (unlisted-b _ _ _ (listed-at _ _ _ _ _ (ends-within _ 96 _ (c .before .before .before .before .before .before .before .before .before .before .pre) _ (c .before .before .before .before .before .before .before .before .loop-test .taken) .1 .low) (c .before .lists2 .ensures) (not-true _ (c .if2 .taken))))
 
 loop-again : tie.Need-loop-again Inv-loop μ-loop
 loop-again c =
     let ends = ends-within _ 96 _ (c .before .before .before .before .before .before .before .before .before .before .pre) _ (c .before .before .before .before .before .before .before .before .loop-test .taken) in
     none-turn _ _ _ (c .before .before .before .before .before .before .before .before .before .loop .inv) (c .before .before .before .before .before .before .before .before .loop-test .taken)
-    (listed-both _ _ _ (listed-at _ _ _ _ _ (ends .a-low) (c .before .before .before .lists .ensures) (not-false _ (c .before .before .if1 .left))) (listed-at _ _ _ _ _ (ends .b-low) (c .before .lists2 .ensures) (not-false _ (c .if2 .left))))
+    (listed-both _ _ _ (listed-at _ _ _ _ _ (ends .0 .low) (c .before .before .before .lists .ensures) (not-false _ (c .before .before .if1 .left))) (listed-at _ _ _ _ _ (ends .1 .low) (c .before .lists2 .ensures) (not-false _ (c .if2 .left))))
 
 pub some-unlisted-spec : {M : Type 1} → statement M
 some-unlisted-spec =

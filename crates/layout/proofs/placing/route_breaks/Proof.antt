@@ -8,7 +8,7 @@ use Rattle.rules.proofs.Tests.{answered}
 use Rattle.rules.proofs.Rows.{NoneYet, none-start, none-turn, none-found, none-done}
 use Rattle.rules.specs.Track.{trackIn}
 use Rattle.rules.specs.Placing.{routePlaceFault, routeFault}
-use Rattle.layout.proofs.Routes.{breaks-past, breaks-outside, breaks-apart, whole-first, whole-next}
+use Rattle.layout.proofs.Routes.{faulty-past, faulty-outside, faulty-apart, sound-first, sound-next}
 use Rattle.layout.proofs.placing.route_breaks.Statement.{statement}
 use Rattle.layout.proofs.placing.route_breaks.Tie as tie
 
@@ -19,7 +19,7 @@ abbrev μ-loop : tie.MeasureT-loop
 μ-loop routes train r n near far start length p₀ p = length - p
 
 returns : tie.Need-returns Inv-loop μ-loop
-returns c = breaks-past _ _ _ _ _ _ (c .if1 .taken)
+returns c = faulty-past _ _ _ _ _ _ (c .if1 .taken)
 
 sub-start : tie.Need-sub-start Inv-loop μ-loop
 sub-start c = omega arith
@@ -48,7 +48,7 @@ outside-requires c κs = search needs
 returns-2 : tie.Need-returns-2 Inv-loop μ-loop
 unfolding routeFault
 returns-2 c =
-    none-found _ _ (c .before .before .before .before .loop .p) (omega arith) (breaks-outside _ _ _ _ _ _ (omega arith) (omega arith) (answered _ _ _ (c .before .outside .ensures) (c .if2 .taken)))
+    none-found _ _ (c .before .before .before .before .loop .p) (omega arith) (faulty-outside _ _ _ _ _ _ (omega arith) (omega arith) (answered _ _ _ (c .before .outside .ensures) (c .if2 .taken)))
 
 add-follows : tie.Need-add-follows Inv-loop μ-loop
 add-follows c = omega arith
@@ -65,7 +65,7 @@ follows-requires c κs = search needs
 returns-3 : tie.Need-returns-3 Inv-loop μ-loop
 unfolding routeFault
 returns-3 c =
-    none-found _ _ (c .before .before .before .before .before .before .before .before .loop .p) (omega arith) (breaks-apart _ _ _ _ _ _ (omega arith) (omega arith) (c .before .before .before .if3 .taken) (answered _ _ _ (c .before .follows .ensures) (not-true _ (c .if4 .taken))))
+    none-found _ _ (c .before .before .before .before .before .before .before .before .loop .p) (omega arith) (faulty-apart _ _ _ _ _ _ (omega arith) (omega arith) (c .before .before .before .if3 .taken) (answered _ _ _ (c .before .follows .ensures) (not-true _ (c .if4 .taken))))
 
 add-p : tie.Need-add-p Inv-loop μ-loop
 add-p c = omega arith
@@ -76,7 +76,7 @@ loop-less c = omega arith
 loop-again : tie.Need-loop-again Inv-loop μ-loop
 loop-again c =
     let e = answered _ _ _ (c .before .before .outside .ensures) (c .before .if2 .left) in
-    none-turn _ _ (c .before .before .before .before .before .loop .p) (c .before .before .before .before .before .loop .inv) (omega arith) (⊎-elim (λ w. whole-next _ _ _ _ _ _ (omega arith) (omega arith) e (w .0 .taken) (answered _ _ _ (w .2 .ensures) (not-false _ (w .3 .left)))) (λ w. whole-first _ _ _ _ _ _ (omega arith) (omega arith) e (w .left)) (c .if3 .came))
+    none-turn _ _ (c .before .before .before .before .before .loop .p) (c .before .before .before .before .before .loop .inv) (omega arith) (⊎-elim (λ w. sound-next _ _ _ _ _ _ (omega arith) (omega arith) e (w .0 .taken) (answered _ _ _ (w .2 .ensures) (not-false _ (w .3 .left)))) (λ w. sound-first _ _ _ _ _ _ (omega arith) (omega arith) e (w .left)) (c .if3 .came))
 
 returns-4 : tie.Need-returns-4 Inv-loop μ-loop
 unfolding routeFault

@@ -103,7 +103,8 @@ pub record Accepted (t : Table) : Type 0 where
   -- No two trains start on one segment.
   pub starts : (i j : ℕ) → TrainOf t i → TrainOf t j → onRoute t i 1 ≡ onRoute t j 1 → i ≡ j
 
--- The tests of a number of a segment or box, and over all segments, boxes and trains.
+-- The tests of a number of a segment or box; and those over all segments, boxes and trains of a table, by which `simp` tells the
+-- three numbers apart.
 segment-iff : (n s : ℕ) → (outside n s ≡ false) ↔ SegmentOf n s
 segment-iff n s = simp outside-false-iff (omega arith)
 
@@ -284,9 +285,10 @@ routed-iff n track routes i d r =
     )
 
 -- Code 12: a train and those before it.
-start-iff : (t : Table) (i : ℕ) → (startFault (t .routes) i ≡ false) ↔ ((j : ℕ) → 1 ≤ j → j < i → onRoute t i 1 ≢ onRoute t j 1)
+start-iff : (routes : List ℕ) (i : ℕ)
+    → (startFault routes i ≡ false) ↔ ((j : ℕ) → 1 ≤ j → j < i → routeAt routes i 1 ≢ routeAt routes j 1)
 unfolding startFault
-start-iff t i = simp (facts, any-false-iff) (λ e j l h. e j l (omega arith), λ e j l h. e j l (omega arith))
+start-iff routes i = simp (facts, any-false-iff) (λ e j l h. e j l (omega arith), λ e j l h. e j l (omega arith))
 
 -- Code 12: where each train starts on another segment than those before it, any two do.
 starts-iff : (t : Table)

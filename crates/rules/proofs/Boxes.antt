@@ -1,6 +1,6 @@
 -- How the boxes of an accepted table join its segments.
 use Prim.Native.Nat.{ℕ, _≤_}
-use mathlib.Core.Path.{_≡_, refl, sym, _∙_}
+use mathlib.Core.Path.{_≡_, refl, sym, _∙_, ap}
 use mathlib.Core.Logic.{_⊎_, inl, inr, ⊎-elim, _↔_, Iff·rfl, Iff·trans, _≢_}
 use mathlib.Core.Bool.{Bool, true, false, _&&_, _||_, cond, false≢true}
 use lib.Dec.{eqb}
@@ -8,12 +8,12 @@ use native.Mathlib.Decide.{ℕ-discrete, decLe}
 use native.Mathlib.Omega.{arith}
 use Rattle.rules.specs.declared.BoxPlan.{BoxPlan}
 use Rattle.rules.specs.declared.Table.{Table}
-use Rattle.rules.specs.Track.{planAt, isPoint, positionFits, nearBox, farBox, samePair, joins, trackOf}
+use Rattle.rules.specs.Track.{planAt, isPoint, positionFits, nearBox, farBox, samePair, joins, Track, trackOf}
 use Rattle.rules.specs.Loop.{SegmentOf}
 use Rattle.rules.specs.Network.{lists}
 use Rattle.rules.specs.Steps.{positionFor}
 use Rattle.rules.proofs.Tests.{facts, or-true-iff}
-use Rattle.rules.proofs.Accepted.{Accepted, BoxOf, Planned, Branch, onLeft, onRight, Stands, EndAt, back, far-back, near-back, either-end, lists-iff}
+use Rattle.rules.proofs.Accepted.{Accepted, BoxOf, Planned, Branch, onLeft, onRight, Stands, EndAt, Sides, back, far-back, near-back, either-end, lists-iff}
 
 -- Position y of a box joins segments s and x: one is its stem, and the position leads to the other.
 pub data Joint (p : BoxPlan) (y s x : ℕ) : Type 0 where
@@ -110,40 +110,49 @@ module _ {t : Table} (a : Accepted t) where
   pub far-listed : (d s : ℕ) → SegmentOf (t .n) s → lists (planAt t (farBox (trackOf t) d s)) s ≡ true
   far-listed d s h = rw far-back (a .listed (back d) s h)
 
--- A box of an accepted table.
-module _ {t : Table} (a : Accepted t) {b : ℕ} (box : BoxOf (t .m) b) where
+-- Box b with plan p, where codes 7 and 8 find nothing.
+module _ {n : ℕ} {track : Track} {b : ℕ} {p : BoxPlan} (plan : Planned n p) (sides : Sides track b p) where
   -- Its stem comes to it by one of its ends.
-  stem-end : EndAt (trackOf t) (planAt t b .stem) b
+  stem-end : EndAt track (p .stem) b
   stem-end =
-      let stem = a .plans b box .stem in
-      a .sides b box .ends _ (lists-iff _ _ .1 (inl refl)) (omega arith)
+      let stem = plan .stem in
+      sides .ends _ (lists-iff _ _ .1 (inl refl)) (omega arith)
 
   -- Its stem is no branch of it. So a segment stands at one place of it only.
-  pub stem-no-branch : {y s : ℕ} → Branch (planAt t b) y s → planAt t b .stem ≢ s
+  pub stem-no-branch : {y s : ℕ} → Branch p y s → p .stem ≢ s
   stem-no-branch {y} {s} r e =
-      let stem = a .plans b box .stem in
+      let stem = plan .stem in
+      let d = stem-end .direction in
       let there = stem-end .there in
-      a .sides b box .opposite y s r (omega arith) (stem-end .direction) there (rw e at there)
+      sides .opposite y s r (omega arith) d there (ap (nearBox track d) (sym e) ∙ there)
 
   -- The stem is on the other side than a branch: for a train that leaves the box on the branch, the stem lies behind.
-  stem-far : (y s d : ℕ) → SegmentOf (t .n) s → Branch (planAt t b) y s → nearBox (trackOf t) d s ≡ b → farBox (trackOf t) d (planAt t b .stem) ≡ b
+  stem-far : (y s d : ℕ) → SegmentOf n s → Branch p y s → nearBox track d s ≡ b → farBox track d (p .stem) ≡ b
   stem-far y s d hs r e =
       ⊎-elim
-      (λ f. absurd (a .sides b box .opposite y s r (omega arith) d (f ∙ stem-end .there) e))
+      (λ f. absurd (sides .opposite y s r (omega arith) d (f ∙ stem-end .there) e))
       (λ f. f ∙ stem-end .there)
-      (either-end (trackOf t) _ d (stem-end .direction))
+      (either-end track _ d (stem-end .direction))
 
   -- The same for a train that comes to the box on the branch.
-  stem-near : (y s d : ℕ) → SegmentOf (t .n) s → Branch (planAt t b) y s → farBox (trackOf t) d s ≡ b → nearBox (trackOf t) d (planAt t b .stem) ≡ b
-  stem-near y s d hs r e = near-back (trackOf t) d _ ∙ stem-far y s (back d) hs r (sym (far-back (trackOf t) d s) ∙ e)
+  stem-near : (y s d : ℕ) → SegmentOf n s → Branch p y s → farBox track d s ≡ b → nearBox track d (p .stem) ≡ b
+  stem-near y s d hs r e = near-back track d _ ∙ stem-far y s (back d) hs r (sym (far-back track d s) ∙ e)
 
   -- One position joins two segments.
-  pub joint-once : {y z s x : ℕ} → SegmentOf (t .n) s → SegmentOf (t .n) x → Joint (planAt t b) y s x → Joint (planAt t b) z s x → y ≡ z
-  joint-once hs hx (fromStem e r) (fromStem f q) = branch-once (a .plans b box) hx r q
+  pub joint-once : {y z s x : ℕ} → SegmentOf n s → SegmentOf n x → Joint p y s x → Joint p z s x → y ≡ z
+  joint-once hs hx (fromStem e r) (fromStem f q) = branch-once plan hx r q
   joint-once hs hx (fromStem e r) (toStem f q) = absurd (stem-no-branch q e)
   joint-once hs hx (toStem e r) (fromStem f q) = absurd (stem-no-branch r f)
-  joint-once hs hx (toStem e r) (toStem f q) = branch-once (a .plans b box) hs r q
+  joint-once hs hx (toStem e r) (toStem f q) = branch-once plan hs r q
 
+  -- No other position joins two segments than the one for them.
+  pub position-only : (y s x : ℕ) → SegmentOf n s → SegmentOf n x → joins p y s x ≡ true → y ≡ positionFor p s x
+  position-only y s x hs hx j =
+      let h = joins-iff _ y s x .0 j in
+      joint-once hs hx h (joins-iff _ _ s x .0 (joint-position h))
+
+-- A box of an accepted table.
+module _ {t : Table} (a : Accepted t) {b : ℕ} (box : BoxOf (t .m) b) where
   -- Where segment x follows segment s at it, one of them is the stem, and the other a branch.
   pub joint : (d s x : ℕ) → SegmentOf (t .n) s → SegmentOf (t .n) x → farBox (trackOf t) d s ≡ b → nearBox (trackOf t) d x ≡ b
       → (y : ℕ) × Joint (planAt t b) y s x
@@ -157,19 +166,14 @@ module _ {t : Table} (a : Accepted t) {b : ℕ} (box : BoxOf (t .m) b) where
       go (inl g) (inr r) = (r .0, fromStem g (r .1))
       go (inr r) (inl g) = (r .0, toStem g (r .1))
       go (inr r) (inr q) =
-          absurd (a .ends _ (a .plans b box .stem) .differ d (stem-near _ s d hs (r .1) e ∙ sym (stem-far _ x d hx (q .1) f)))
+          let plan = a .plans b box in
+          let sides = a .sides b box in
+          absurd (a .ends _ (plan .stem) .differ d (stem-near plan sides _ s d hs (r .1) e ∙ sym (stem-far plan sides _ x d hx (q .1) f)))
 
   -- The position for them joins them.
   pub position-joins : (d s x : ℕ) → SegmentOf (t .n) s → SegmentOf (t .n) x → farBox (trackOf t) d s ≡ b → nearBox (trackOf t) d x ≡ b
       → joins (planAt t b) (positionFor (planAt t b) s x) s x ≡ true
   position-joins d s x hs hx e f = joint-position (joint d s x hs hx e f .1)
-
-  -- No other position joins two segments than the one for them.
-  pub position-only : (y s x : ℕ) → SegmentOf (t .n) s → SegmentOf (t .n) x → joins (planAt t b) y s x ≡ true
-      → y ≡ positionFor (planAt t b) s x
-  position-only y s x hs hx j =
-      let h = joins-iff _ y s x .0 j in
-      joint-once hs hx h (joins-iff _ _ s x .0 (joint-position h))
 
   -- Where a segment follows another at it, it is no border.
   pub passed-kind : (d s x : ℕ) → SegmentOf (t .n) s → SegmentOf (t .n) x → farBox (trackOf t) d s ≡ b → nearBox (trackOf t) d x ≡ b → 1 ≤ planAt t b .kind

@@ -32,7 +32,7 @@ pub train-answer : (n : ℕ) (track : Track) (point : ℕ → Bool) (routes : Li
     → trainFault n track point routes (i + 1) (nth trains (i + 1) noTrain) ≡ v
 train-answer n track point routes trains i z v e f = rw nth-at (answered _ _ _ e f)
 
--- More trains than there are places: train 17 has no record, and so no route.
+-- More trains than there are places: train 17 has no record, and reads as one with a route of length 0, which is at fault.
 pub many-trains : (n k : ℕ) (track : Track) (point : ℕ → Bool) (routes : List ℕ) (trains : List Train) → length trains ≡ 16 → 16 < k
     → true ≡ trainsFault n k track point routes trains
 unfolding trainsFault trainFault routeShapeFault outside

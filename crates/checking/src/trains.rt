@@ -123,7 +123,7 @@ pub fn some_train_faulty(
 ) -> bool
     ensures { λ x. ⌜ x ≡ trainsFault n k (trackIn (now (a .entry)) (now (b .entry))) (pointIn (now (kinds .entry))) (now (routes .entry)) trains ⌝ }
 {
-    // Train 17 has no record, and so no route.
+    // Train 17 has no record: it reads as one with a route of length 0, which is at fault.
     if k > 16 {
         return true;
     }

@@ -34,7 +34,8 @@ pub fn head_code(version: u16, n: u8, m: u8, k: u8) -> u8
     0
 }
 
-// Codes 6 to 9 of a table record within its limits, by the boxes at the A ends and at the B ends of its segments.
+// Codes 6 to 9 of a table record with at most 96 segments and 96 boxes, by the boxes at the A ends and at the B ends of its
+// segments.
 fn network_code(n: u8, m: u8, plans: [BoxPlan; 96], a: &[u8; 256], b: &[u8; 256]) -> u8
     requires { ⌜ n ≤ 96 ⌝ }
     requires { ⌜ m ≤ 96 ⌝ }
@@ -58,7 +59,7 @@ fn network_code(n: u8, m: u8, plans: [BoxPlan; 96], a: &[u8; 256], b: &[u8; 256]
     0
 }
 
-// Codes 10 to 12 of a table record within its limits, by the same boxes.
+// Codes 10 to 12 of a table record with at most 16 trains, by the same boxes.
 fn placing_code(
     n: u8,
     k: u8,

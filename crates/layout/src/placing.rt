@@ -35,7 +35,7 @@ pub(crate) fn some_shape_faulty(k: u8, trains: [TrainPlan; 16]) -> bool
     false
 }
 
-// Segment s follows segment `before`: the far end of one and the near end of the other are at one box.
+// Segment s follows segment `before`: the far end of `before` and the near end of s are at one box.
 fn follows(before: u8, s: u8, near: &[u8; 256], far: &[u8; 256]) -> bool
     ensures { λ r. ⌜ r ≡ follows (trackIn (now (near .entry)) (now (far .entry))) 0 before s ⌝ }
 {

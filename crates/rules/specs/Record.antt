@@ -58,7 +58,7 @@ switchBoxFault k p x =
     || ltb k (x .left)
     || ltb k (x .right)
 
--- Some train of 1 to k is at fault, and some box of 1 to m is, by the records of all.
+-- Some train of 1 to k is at fault, by the records of all trains; and some box of 1 to m, by the plans and records of all boxes.
 unfoldable pub trainsFault : ℕ → ℕ → Track → (ℕ → Bool) → List ℕ → List Train → Bool
 trainsFault n k track point routes trains = anyOf k (λ i. trainFault n track point routes i (nth trains i noTrain))
 

@@ -55,11 +55,13 @@ trackOf t = trackBy (t .segments)
 abbrev pub trackIn : List ℕ → List ℕ → Track
 trackIn a b = record { endA = λ s. getD a s 0; endB = λ s. getD b s 0 }
 
--- Of the boxes a and b at the A end and the B end of a segment, the one at its far end for a train of direction d.
+-- Of the boxes a and b at the A end and the B end of a segment, the one at its far end for a train of direction d: b for 0, a for 1
+-- and any other.
 abbrev pub farOf : ℕ → ℕ → ℕ → ℕ
 farOf d a b = cond (eqb d 0) b a
 
--- The box at the far end of segment s for a train of direction d, and the box at its near end.
+-- The box at the far end of segment s for a train of direction d, and the box at its near end, which is the far end with the two
+-- ends exchanged.
 unfoldable pub farBox : Track → ℕ → ℕ → ℕ
 farBox track d s = farOf d (track .endA s) (track .endB s)
 

@@ -32,6 +32,12 @@ pub train-answer : (n : ℕ) (track : Track) (point : ℕ → Bool) (routes : Li
     → trainFault n track point routes (i + 1) (nth trains (i + 1) noTrain) ≡ v
 train-answer n track point routes trains i z v e f = rw nth-at (answered _ _ _ e f)
 
+pub box-answer : (k : ℕ) (plans : List BoxPlan) (boxes : List SwitchBox) (i : ℕ) (z v : Bool)
+    → z ≡ switchBoxFault k (getD plans i noBoxPlan) (getD boxes i noBox)
+    → z ≡ v
+    → switchBoxFault k (nth plans (i + 1) noBoxPlan) (nth boxes (i + 1) noBox) ≡ v
+box-answer k plans boxes i z v e f = rw (nth-at plans, nth-at boxes) (answered _ _ _ e f)
+
 -- More trains than there are places: train 17 has no record, and reads as one with a route of length 0, which is at fault.
 pub many-trains : (n k : ℕ) (track : Track) (point : ℕ → Bool) (routes : List ℕ) (trains : List Train) → length trains ≡ 16 → 16 < k
     → true ≡ trainsFault n k track point routes trains
@@ -39,12 +45,6 @@ unfolding trainsFault trainFault routeShapeFault outside
 many-trains n k track point routes trains sized many =
     none-found k (λ i. trainFault n track point routes i (nth trains i noTrain)) 16 many
     (rw (nth-past trains 17 noTrain (omega arith)) (search tests))
-
-pub box-answer : (k : ℕ) (plans : List BoxPlan) (boxes : List SwitchBox) (i : ℕ) (z v : Bool)
-    → z ≡ switchBoxFault k (getD plans i noBoxPlan) (getD boxes i noBox)
-    → z ≡ v
-    → switchBoxFault k (nth plans (i + 1) noBoxPlan) (nth boxes (i + 1) noBox) ≡ v
-box-answer k plans boxes i z v e f = rw (nth-at plans, nth-at boxes) (answered _ _ _ e f)
 
 -- Codes of an answer: 0, those of a reservation, those of a lock.
 pub answer-zero : (q : Request) (c : ℕ) → c ≡ 0 → true ≡ answerCode q c

@@ -2,10 +2,9 @@
 use Prim.Native.Nat.{ℕ}
 use mathlib.Core.Path.{_≡_}
 use native.Mathlib.Omega.{arith}
-use lib.Dec.{eqb}
 use lib.ListN.{length, getD}
 use Rattle.rules.specs.declared.Table.{Table}
-use Rattle.rules.specs.Track.{planAt, isPoint, pointAt, pointIn}
+use Rattle.rules.specs.Track.{planAt, pointKind, isPoint, pointAt, pointIn}
 use Rattle.layout.specs.Column.{column}
 use Rattle.layout.proofs.Column.{column-all}
 use Rattle.traincomputer.specs.Sight.{kindOf}
@@ -18,4 +17,4 @@ kind-column t e = column-all (kindOf (t .boxes)) (λ b h. kind-past (t .boxes) e
 
 pub column-points : (t : Table) → length (t .boxes) ≡ 96 → pointIn (column (kindOf (t .boxes))) ≡ pointAt t
 unfolding isPoint
-column-points t e = λ i b. eqb (kind-column t e b i) 2
+column-points t e = λ i b. pointKind (kind-column t e b i)

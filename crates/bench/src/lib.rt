@@ -84,7 +84,7 @@ pub extern "C" fn bench_steps(file: &[u8], steps: &[u8], answers: &mut [u8]) -> 
     if outcome.code != 0 {
         return outcome.code;
     }
-    if answers.len() < engine::steps::count(steps.len()) {
+    if answers.len() < running::count(steps.len()) {
         return 26;
     }
     let line = outcome.line;

@@ -1,135 +1,110 @@
 // What a step does to its train and to the one box that it concerns, by 01's rows of codes: `traincomputer` has what the train's
-// computer decides, `switchbox` what the box does. The train and the box are passed by value: the engine copies them out of the line,
-// has the step decided here, and puts back what it changed.
-mod moves;
-mod requests;
+// computer decides, `switchbox` what the box does. All is passed by value: the engine copies the train, what stands around it and
+// the box out of the line, has the step decided here, and puts back what it changed.
+pub mod moves;
+pub mod requests;
 
+use rules::Around;
 use rules::BoxPlan;
+use rules::Effect;
 use rules::Request;
 use rules::SwitchBox;
 use rules::Train;
-use traincomputer::sight::around;
 ghost use mathlib.Core.Path.{_≡_};
-ghost use Rattle.traincomputer.specs.Sight.{aroundIn};
-ghost use Rattle.deciding.specs.declared.Decided.the-variants.{Refused};
-ghost use Rattle.deciding.specs.Decided.{concernedBox, asking, plainly, decided};
+ghost use mathlib.Core.Bool.{not};
+ghost use Rattle.rules.specs.Rows.{first, outside};
+ghost use Rattle.rules.specs.Track.{noBoxPlan};
+ghost use Rattle.rules.specs.Line.{noBox};
+ghost use Rattle.rules.specs.Steps.{formRows, concernedBox, alone, effect};
 
-// A step decided: refused with a code, nothing changed; or a code, and the train and the box after it.
-pub enum Decided {
-    Refused(u8),
-    Changed(u8, Train, SwitchBox),
+// Code 13: kinds 1 and 2 have a box byte, kinds 3 to 6 have none, and there is no other kind.
+pub fn form_code(kind: u8, at: u8) -> u8
+    ensures { λ c. ⌜ c ≡ first (formRows kind at) ⌝ }
+{
+    match kind {
+        1..=2 => 0,
+        3..=6 => {
+            if at != 0 {
+                return 13;
+            }
+            0
+        }
+        _ => 13,
+    }
 }
 
-// The box that a step of this kind concerns: for kind 3 the box of the message, for 5 the box ahead, for 6 the box passed; else 0.
-pub fn concerned(
-    kind: u8,
-    number: u8,
-    r: Train,
-    routes: &[u8; 1024],
-    a: &[u8; 256],
-    b: &[u8; 256],
-    kinds: &[u8; 256],
-) -> u8
-    ensures { λ x. ⌜ x ≡ concernedBox kind (aroundIn (now (a .entry)) (now (b .entry)) (now (kinds .entry)) (now (routes .entry)) number r) r ⌝ }
+// There is a train with this number on a line of k trains; where there is none, the code is 14.
+pub fn known(train: u8, k: u8) -> bool
+    ensures { λ r. ⌜ r ≡ not (outside k train) ⌝ }
+{
+    if train == 0 {
+        return false;
+    }
+    if train > k {
+        return false;
+    }
+    true
+}
+
+// The box that a step concerns: for kind 3 the box of the message, for 5 the box ahead, for 6 the box passed; else 0.
+pub fn concerned(kind: u8, v: Around, r: Train) -> u8
+    ensures { λ b. ⌜ b ≡ concernedBox kind v r ⌝ }
 {
     let message = r.message;
     match kind {
         3 => traincomputer::message_box(message),
-        5 => around(number, r, routes, a, b, kinds).ahead,
-        6 => around(number, r, routes, a, b, kinds).passed,
+        5 => v.ahead,
+        6 => v.passed,
         _ => 0,
     }
 }
 
-// A refused step.
-pub(crate) fn refused(code: u8) -> Decided
-    ensures { λ d. ⌜ d ≡ Refused code ⌝ }
-{
-    Decided::Refused(code)
-}
-
-// Kinds 1 and 2: code 14, then the request.
-fn ask(
-    known: bool,
-    q: Request,
-    number: u8,
-    r: Train,
-    x: SwitchBox,
-    routes: &[u8; 1024],
-    a: &[u8; 256],
-    b: &[u8; 256],
-    kinds: &[u8; 256],
-) -> Decided
-    ensures { λ d. ⌜ d ≡ asking known (aroundIn (now (a .entry)) (now (b .entry)) (now (kinds .entry)) (now (routes .entry)) number r) r q x ⌝ }
-{
-    if !known {
-        return refused(14);
-    }
-    let v = around(number, r, routes, a, b, kinds);
-    requests::send(v, r, q, x)
-}
-
-// Kinds 3 to 6, which have no box byte: 13 for another than 0, code 14, then by the kind.
-fn plain(
-    kind: u8,
-    at: u8,
-    known: bool,
-    number: u8,
-    r: Train,
-    p: BoxPlan,
-    x: SwitchBox,
-    routes: &[u8; 1024],
-    a: &[u8; 256],
-    b: &[u8; 256],
-    kinds: &[u8; 256],
-) -> Decided
-    ensures { λ d. ⌜ d ≡ plainly kind at known (aroundIn (now (a .entry)) (now (b .entry)) (now (kinds .entry)) (now (routes .entry)) number r) r p x ⌝ }
-{
-    if at != 0 {
-        return refused(13);
-    }
-    if !known {
-        return refused(14);
-    }
-    match kind {
-        3 => requests::answer(around(number, r, routes, a, b, kinds), r, p, x),
-        4 => requests::hear(around(number, r, routes, a, b, kinds), r, x),
-        5 => moves::enter(around(number, r, routes, a, b, kinds), r, x),
-        _ => moves::clear(around(number, r, routes, a, b, kinds), r, p, x),
-    }
-}
-
-// A step by its kind and its box byte: of the train with this number and record, if there is such a train, at the box that it
-// concerns. What stands around the train is looked up only in the kinds that need it.
-pub fn decide(
-    kind: u8,
-    at: u8,
-    known: bool,
-    number: u8,
-    r: Train,
-    p: BoxPlan,
-    x: SwitchBox,
-    routes: &[u8; 1024],
-    a: &[u8; 256],
-    b: &[u8; 256],
-    kinds: &[u8; 256],
-) -> Decided
-    ensures { λ d. ⌜ d ≡ decided kind at known (aroundIn (now (a .entry)) (now (b .entry)) (now (kinds .entry)) (now (routes .entry)) number r) r p x ⌝ }
+// The kinds that are the train's alone: 1, 2 and 4. The box is handed through.
+pub fn alone(kind: u8, at: u8, v: Around, r: Train, x: SwitchBox) -> Effect
+    ensures { λ d. ⌜ d ≡ alone kind at v r x ⌝ }
 {
     match kind {
-        1 => ask(
-            known,
-            Request::Reserve(at),
-            number,
-            r,
-            x,
-            routes,
-            a,
-            b,
-            kinds,
-        ),
-        2 => ask(known, Request::Lock(at), number, r, x, routes, a, b, kinds),
-        3..=6 => plain(kind, at, known, number, r, p, x, routes, a, b, kinds),
-        _ => refused(13),
+        1 => requests::send(v, r, x, Request::Reserve(at)),
+        2 => requests::send(v, r, x, Request::Lock(at)),
+        _ => requests::hear(v, r, x),
+    }
+}
+
+// A step that 13 and 14 do not stop, by its kind: of the train with this record and what stands around it, at the box that it
+// concerns.
+pub fn decide(kind: u8, at: u8, v: Around, r: Train, p: BoxPlan, x: SwitchBox) -> Effect
+    ensures { λ d. ⌜ d ≡ effect kind at v r p x ⌝ }
+{
+    match kind {
+        3 => requests::answer(v, r, p, x),
+        5 => moves::enter(v, r, x),
+        6 => moves::clear(v, r, p, x),
+        _ => alone(kind, at, v, r, x),
+    }
+}
+
+// What is read where a step concerns no box.
+pub fn no_plan() -> BoxPlan
+    ensures { λ r. ⌜ r ≡ noBoxPlan ⌝ }
+{
+    BoxPlan {
+        kind: 0,
+        stem: 0,
+        left: 0,
+        right: 0,
+        position: 0,
+    }
+}
+
+pub fn no_box() -> SwitchBox
+    ensures { λ r. ⌜ r ≡ noBox ⌝ }
+{
+    SwitchBox {
+        sensor: false,
+        position: 0,
+        lock: 0,
+        stem: 0,
+        left: 0,
+        right: 0,
     }
 }

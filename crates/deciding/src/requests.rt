@@ -1,62 +1,57 @@
 // Kinds 1 to 4: requests, the box's answer, and hearing it.
-use crate::Decided;
-use crate::refused;
 use rules::Around;
 use rules::BoxPlan;
+use rules::Effect;
 use rules::Message;
 use rules::Request;
 use rules::SwitchBox;
 use rules::Train;
 ghost use mathlib.Core.Path.{_≡_};
-ghost use Rattle.deciding.specs.Decided.{sending, answering, boxAnswering, hearing};
+ghost use Rattle.rules.specs.Steps.{send, reply, boxAnswers, trainHears};
 
 // Kinds 1 and 2: the message is sent.
-pub(crate) fn send(v: Around, r: Train, q: Request, x: SwitchBox) -> Decided
-    ensures { λ d. ⌜ d ≡ sending v r q x ⌝ }
+pub(crate) fn send(v: Around, r: Train, x: SwitchBox, q: Request) -> Effect
+    ensures { λ d. ⌜ d ≡ send v r x q ⌝ }
 {
     let code = traincomputer::request_code(v, r, q);
     if code != 0 {
-        return refused(code);
+        return Effect::Refused(code);
     }
-    Decided::Changed(0, traincomputer::with_message(r, Message::Sent(q)), x)
+    Effect::Changed(0, traincomputer::with_message(r, Message::Sent(q)), x)
 }
 
 // The box answers a request: a yes is carried out, a no leaves it as it was.
-fn reply(v: Around, r: Train, p: BoxPlan, x: SwitchBox, q: Request) -> Decided
-    ensures { λ d. ⌜ d ≡ answering v r p x q ⌝ }
+fn reply(v: Around, r: Train, p: BoxPlan, x: SwitchBox, q: Request) -> Effect
+    ensures { λ d. ⌜ d ≡ reply v r p x q ⌝ }
 {
     let code = switchbox::box_code(v, p, x, q);
     let train = traincomputer::with_message(r, Message::Answered(q, code));
     if code != 0 {
-        return Decided::Changed(code, train, x);
+        return Effect::Changed(code, train, x);
     }
-    Decided::Changed(0, train, switchbox::granted(v, p, x, q))
+    Effect::Changed(0, train, switchbox::granted(v, p, x, q))
 }
 
 // Kind 3: the box answers a message that is sent.
-pub(crate) fn answer(v: Around, r: Train, p: BoxPlan, x: SwitchBox) -> Decided
-    ensures { λ d. ⌜ d ≡ boxAnswering v r p x (r .message) ⌝ }
+pub fn answer(v: Around, r: Train, p: BoxPlan, x: SwitchBox) -> Effect
+    ensures { λ d. ⌜ d ≡ boxAnswers v r p x (r .message) ⌝ }
 {
     let message = r.message;
     match message {
-        Message::Idle => refused(21),
+        Message::Idle => Effect::Refused(21),
         Message::Sent(q) => reply(v, r, p, x, q),
-        Message::Answered(_, _) => refused(21),
+        Message::Answered(_, _) => Effect::Refused(21),
     }
 }
 
 // Kind 4: the train hears an answer that is on its way, with the answer's code.
-pub(crate) fn hear(v: Around, r: Train, x: SwitchBox) -> Decided
-    ensures { λ d. ⌜ d ≡ hearing v r x (r .message) ⌝ }
+pub(crate) fn hear(v: Around, r: Train, x: SwitchBox) -> Effect
+    ensures { λ d. ⌜ d ≡ trainHears v r x (r .message) ⌝ }
 {
     let message = r.message;
     match message {
-        Message::Idle => refused(21),
-        Message::Sent(_) => refused(21),
-        Message::Answered(q, code) => Decided::Changed(
-            code,
-            traincomputer::heard(v, r, q, code),
-            x,
-        ),
+        Message::Idle => Effect::Refused(21),
+        Message::Sent(_) => Effect::Refused(21),
+        Message::Answered(q, code) => Effect::Changed(code, traincomputer::heard(v, r, q, code), x),
     }
 }

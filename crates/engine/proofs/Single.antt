@@ -1,25 +1,33 @@
--- A single step: 27 by the parts of the record that is handed in, then the one step of the loop.
-use Prim.Native.Nat.{ℕ, _≤_}
+-- A single step: 27 by the parts of the record that is handed in, then the step itself.
+use Prim.Native.Nat.{ℕ, suc}
 use mathlib.Core.Path.{_≡_, refl, sym, _∙_}
+use mathlib.Core.Logic.{_≢_}
 use mathlib.Core.Bool.{Bool, true, false, not, _||_}
-use mathlib.Core.List.{List, [], _∷_, _++_}
+use mathlib.Core.List.{List}
 use native.Mathlib.Decide.{ℕ-discrete}
-use borrow.Author.Tests.{eq-eqb, ne-eqb, le-ltb}
+use borrow.Author.Tests.{eq-eqb, ne-eqb, le-ltb, not-true, not-false}
 use lib.Dec.{eqb, ltb}
-use lib.ListN.{length, getD, drop}
+use lib.ListN.{length, getD, set}
+use Rattle.rules.specs.declared.SwitchBox.{SwitchBox}
+use Rattle.rules.specs.declared.Train.{Train}
 use Rattle.rules.specs.declared.Line.{Line}
+use Rattle.rules.specs.declared.Around.{Around}
+use Rattle.rules.specs.declared.Effect.{Effect}
+use Rattle.rules.specs.declared.Effect.the-variants.{Refused, Changed}
+use Rattle.rules.specs.declared.Outcome.{Outcome}
+use Rattle.rules.specs.Rows.{first, outside, setNth}
 use Rattle.rules.specs.Track.{trackIn, pointIn}
-use Rattle.rules.specs.Steps.{Step, step}
+use Rattle.rules.specs.Line.{noTrain, around, putTrain, putBox}
+use Rattle.rules.specs.Steps.{Step, apply, formRows, step}
 use Rattle.rules.specs.Placing.{partsCode, tableCode}
 use Rattle.rules.specs.Record.{trainsFault, switchBoxesFault, recordFault, checkedStep}
-use Rattle.rules.specs.History.{lineAfter, events}
-use Rattle.rules.specs.Run.{wholeSteps, stepCount, answersOf, answersFrom}
 use Rattle.rules.proofs.Tests.{or-left, or-right}
-use Rattle.rules.proofs.Sound.{sound-iff}
 use Rattle.rules.proofs.Accepted.{Limits, accepted}
+use Rattle.rules.proofs.Steps.{form-row-iff, step-unformed, step-unknown}
 use Rattle.layout.proofs.Tracks.{parts-answer}
-use Rattle.engine.specs.Loop.{Columns}
-use Rattle.engine.proofs.Turn.{track-shown, points-shown}
+use Rattle.traincomputer.specs.Sight.{aroundIn}
+use Rattle.running.specs.Loop.{Columns, standing}
+use Rattle.running.proofs.Turn.{track-shown, points-shown, around-shown, Taken, Turned, train-read}
 
 -- A line whose records have their places, with the columns of its table and the table's code.
 pub record Coded (l : Line) (a b kinds : List ℕ) (c : ℕ) : Type 0 where
@@ -66,7 +74,7 @@ module _ {l : Line} {a b kinds : List ℕ} {c : ℕ} (h : Coded l a b kinds c) w
             rw (le-ltb 96 (t .m) (coded-limits e .boxesHigh), coded-table)
             (sym (λ j.
             not (eqb (tableCode t) 0)
-            || trainsFault (t .n) (t .k) (track-shown (h .columns) (h .segments) j) (points-shown (h .columns) (h .plans) j) (l .routes) (l .trains)
+            || trainsFault (t .n) (t .k) (track-shown (h .columns) (h .segments) j) (points-shown (h .columns) (h .segments) (h .plans) j) (l .routes) (l .trains)
             || switchBoxesFault (t .k) (t .m) (t .boxes) (l .boxes)))
         | no e ↦ rw (← coded-table, ne-eqb c 0 e)
       ]
@@ -83,16 +91,40 @@ module _ {l : Line} {a b kinds : List ℕ} {c : ℕ} (h : Coded l a b kinds c) w
   box-faulty s e = refused-27 s (by-parts ∙ or-right (not (eqb c 0) || atTrains l a b kinds) (atBoxes l) e)
 
 module _ {l : Line} {a b kinds : List ℕ} {c : ℕ} (h : Passed l a b kinds c) where
-  sound : recordFault l ≡ false
+  pub sound : recordFault l ≡ false
   sound = by-parts (h .coded) ∙ rw (eq-eqb c 0 (h .table), h .trains, h .boxes)
 
-  pub passed-trains : l .table .k ≤ 16
-  passed-trains = sound-iff l .0 sound .table .limits .trainsHigh
+  taken-as : (o : Outcome) (s : Step) → o ≡ step l s → o ≡ checkedStep l s
+  unfolding checkedStep
+  taken-as o s e = rw sound e
 
-  -- Then the step is the one that the loop takes.
-  pub single-taken : (kind train box : ℕ) (after : Line) (answer before : List ℕ)
-      → after ≡ lineAfter step l (wholeSteps (kind ∷ train ∷ box ∷ []))
-      → answer ≡ answersFrom step l (kind ∷ train ∷ box ∷ []) ++ drop (stepCount (kind ∷ train ∷ box ∷ [])) before
-      → record { code = getD answer 0 0; line = after } ≡ checkedStep l (record { kind = kind; train = train; box = box })
-  unfolding checkedStep lineAfter wholeSteps answersFrom answersOf events
-  single-taken kind train box after answer before after-is answer-is = rw (sound, after-is, answer-is) refl
+  -- 13 and 14.
+  pub single-unformed : (s : Step) (form : ℕ) → form ≡ first (formRows (s .kind) (s .box)) → form ≢ 0 → record { code = form; line = l } ≡ checkedStep l s
+  single-unformed s form e some = taken-as _ s (step-unformed l s form e some)
+
+  pub single-unknown : (s : Step) (form : ℕ) → form ≡ first (formRows (s .kind) (s .box)) → form ≡ 0 → (known : Bool) → known ≡ not (outside (l .table .k) (s .train))
+      → not known ≡ true → record { code = 14; line = l } ≡ checkedStep l s
+  single-unknown s form e none known known-is unknown =
+      taken-as _ s (step-unknown l s (form-row-iff _ _ .0 (sym e ∙ none)) (not-false _ (sym known-is ∙ not-true known unknown)))
+
+  -- What stands around the train at index i, as looked up.
+  pub single-viewed : {s : Step} {i : ℕ} → Taken (l .table) s i → (v : Around)
+      → v ≡ aroundIn a b kinds (l .routes) (s .train) (getD (l .trains) i noTrain) → v ≡ around l (s .train)
+  unfolding around
+  single-viewed {s} {i} w v e =
+      rw (around-shown (h .coded .columns) (h .coded .segments) (h .coded .plans) (l .routes), train-read l s i sound w) at e
+
+  -- What is decided, refused, and put back with the box at index j and without one.
+  pub single-refused : {s : Step} {i e code : ℕ} {d : Effect} → Turned l s i e d → d ≡ Refused code → record { code = code; line = l } ≡ checkedStep l s
+  unfolding apply
+  single-refused w e = taken-as _ _ (rw e at (w .is))
+
+  pub single-alone : {s : Step} {i code : ℕ} {d : Effect} {r : Train} {x : SwitchBox} → Turned l s i 0 d → d ≡ Changed code r x
+      → record { code = code; line = standing (l .table) (l .boxes) (set (l .trains) i r) (l .routes) } ≡ checkedStep l s
+  unfolding apply putTrain putBox setNth
+  single-alone w e = taken-as _ _ (rw e at (w .is))
+
+  pub single-changed : {s : Step} {i j code : ℕ} {d : Effect} {r : Train} {x : SwitchBox} → Turned l s i (suc j) d → d ≡ Changed code r x
+      → record { code = code; line = standing (l .table) (set (l .boxes) j x) (set (l .trains) i r) (l .routes) } ≡ checkedStep l s
+  unfolding apply putTrain putBox setNth
+  single-changed w e = taken-as _ _ (rw e at (w .is))

@@ -1,7 +1,6 @@
 // The line engine: a single step on any line record, and a run of a table file and all its steps.
-pub mod steps;
-
 use layout::network;
+use rules::Effect;
 use rules::Line;
 use rules::Outcome;
 use traincomputer::sight;
@@ -18,41 +17,7 @@ pub fn run(file: &[u8], steps: &[u8], answers: &mut [u8]) -> Outcome
     ensures { λ r. ⌜ now (answers .exit) ≡ answered checkedStep (now (file .entry)) (now (steps .entry)) (now (answers .entry)) ⌝ }
     ensures { λ r. ⌜ (r .code ≡ 0 → SafeRun (now (file .entry)) (now (steps .entry)) (r .line) (now (answers .entry)) (now (answers .exit))) ⌝ }
 {
-    let start = reading::read(file);
-    if start.code != 0 {
-        return start;
-    }
-    if answers.len() < steps::count(steps.len()) {
-        return Outcome {
-            code: 26,
-            line: reading::empty::line(),
-        };
-    }
-    let mut line = start.line;
-    let table = line.table;
-    let segments = table.segments;
-    let plans = table.boxes;
-    let a = network::far_boxes(segments, 1);
-    let b = network::far_boxes(segments, 0);
-    let kinds = sight::kinds(plans);
-    let boxes = line.boxes;
-    let trains = line.trains;
-    let moved = steps::advance(
-        table,
-        boxes,
-        trains,
-        &line.routes,
-        steps,
-        answers,
-        &a,
-        &b,
-        &kinds,
-    );
-    let boxes_after = moved.boxes;
-    let trains_after = moved.trains;
-    line.boxes = boxes_after;
-    line.trains = trains_after;
-    Outcome { code: 0, line }
+    running::run(file, steps, answers)
 }
 
 // A single step on any line record: 27 first, then 13, 14 and the rows of the step's kind. With 13 to 21 and 27 the line is as it
@@ -60,21 +25,20 @@ pub fn run(file: &[u8], steps: &[u8], answers: &mut [u8]) -> Outcome
 pub fn step(mut line: Line, kind: u8, train: u8, number: u8) -> Outcome
     ensures { λ r. ⌜ r ≡ checkedStep line (record { kind = kind; train = train; box = number }) ⌝ }
 {
-    let table = line.table;
-    let segments = table.segments;
-    let plans = table.boxes;
-    let train_plans = table.trains;
+    let segments = line.table.segments;
+    let plans = line.table.boxes;
+    let train_plans = line.table.trains;
     let a = network::far_boxes(segments, 1);
     let b = network::far_boxes(segments, 0);
     let kinds = sight::kinds(plans);
     if layout::parts_code(
-        table.version,
-        table.n,
-        table.m,
-        table.k,
+        line.table.version,
+        line.table.n,
+        line.table.m,
+        line.table.k,
         plans,
         train_plans,
-        &table.routes,
+        &line.table.routes,
         &a,
         &b,
     )
@@ -83,32 +47,51 @@ pub fn step(mut line: Line, kind: u8, train: u8, number: u8) -> Outcome
         return Outcome { code: 27, line };
     }
     let trains = line.trains;
-    if checking::trains::some_train_faulty(table.n, table.k, trains, &line.routes, &a, &b, &kinds) {
-        return Outcome { code: 27, line };
-    }
-    let boxes = line.boxes;
-    if checking::boxes::some_box_faulty(table.k, table.m, plans, boxes) {
-        return Outcome { code: 27, line };
-    }
-    let bytes = [kind, train, number];
-    let mut answer = [0u8; 1];
-    let moved = steps::advance(
-        table,
-        boxes,
+    if checking::trains::some_train_faulty(
+        line.table.n,
+        line.table.k,
         trains,
         &line.routes,
-        &bytes,
-        &mut answer,
         &a,
         &b,
         &kinds,
-    );
-    let boxes_after = moved.boxes;
-    let trains_after = moved.trains;
-    line.boxes = boxes_after;
-    line.trains = trains_after;
-    Outcome {
-        code: answer[0],
-        line,
+    ) {
+        return Outcome { code: 27, line };
+    }
+    let boxes = line.boxes;
+    if checking::boxes::some_box_faulty(line.table.k, line.table.m, plans, boxes) {
+        return Outcome { code: 27, line };
+    }
+    let form = deciding::form_code(kind, number);
+    if form != 0 {
+        return Outcome { code: form, line };
+    }
+    if !deciding::known(train, line.table.k) {
+        return Outcome { code: 14, line };
+    }
+    let i = (train - 1) as usize;
+    let r = trains[i];
+    let v = sight::around(train, r, &line.routes, &a, &b, &kinds);
+    let at = deciding::concerned(kind, v, r);
+    if at == 0 {
+        let d = deciding::decide(kind, number, v, r, deciding::no_plan(), deciding::no_box());
+        match d {
+            Effect::Refused(code) => Outcome { code, line },
+            Effect::Changed(code, train_after, _) => {
+                line.trains[i] = train_after;
+                Outcome { code, line }
+            }
+        }
+    } else {
+        let j = (at - 1) as usize;
+        let d = deciding::decide(kind, number, v, r, plans[j], boxes[j]);
+        match d {
+            Effect::Refused(code) => Outcome { code, line },
+            Effect::Changed(code, train_after, box_after) => {
+                line.trains[i] = train_after;
+                line.boxes[j] = box_after;
+                Outcome { code, line }
+            }
+        }
     }
 }

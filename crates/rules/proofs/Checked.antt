@@ -7,10 +7,7 @@ use Rattle.rules.specs.declared.Line.{Line}
 use Rattle.rules.specs.Steps.{Step, step}
 use Rattle.rules.specs.Record.{recordFault, checkedStep}
 use Rattle.rules.specs.History.{lineAfter, events}
-
--- The check finds nothing on the line and on any line that steps reach from it.
-abbrev pub Sound : Line → Type 0
-Sound l = (steps : List Step) → recordFault (lineAfter step l steps) ≡ false
+use Rattle.rules.specs.Safety.{Sound}
 
 sound-here : (l : Line) → Sound l → recordFault l ≡ false
 unfolding lineAfter

@@ -24,6 +24,8 @@ pub mod RoundTrip
 pub mod Frames
 -- What the record check looks for.
 pub mod Sound
+-- A step by row Step: 13, 14, or its effect put back.
+pub mod Steps
 -- What a step does to a line, one case a way of ending.
 pub mod StepKinds
 -- What the rows of codes of a step say.
@@ -34,8 +36,12 @@ pub mod Change
 pub mod Requesting
 pub mod Entering
 pub mod Clearing
+-- The box that a step concerns is one of the table.
+pub mod Concerned
 -- The line with every yes on its way taken as heard.
 pub mod Settled
+-- Kinds 1 to 4 leave a train where it stands.
+pub mod Staying
 -- The invariant holds on the start line of every accepted table.
 pub mod Start
 -- What each step is on the settled line.

@@ -9,10 +9,12 @@ use lib.ListN.{length, getD, drop, length-append, length-drop, take}
 use lib.Seq.{drop-cons}
 use borrow.Author.Tests.{eqb-true, eqb-false}
 use Rattle.rules.specs.declared.Line.{Line}
-use Rattle.rules.specs.File.{fileCode}
+use Rattle.rules.specs.File.{fileCode, decode}
+use Rattle.rules.specs.Line.{startLine}
 use Rattle.rules.specs.Steps.{Step, step}
 use Rattle.rules.specs.Record.{checkedStep}
 use Rattle.rules.specs.History.{Call, events}
+use Rattle.rules.specs.Safety.{Sound}
 use Rattle.rules.specs.Run.{wholeSteps, stepCount, answersOf, partialAnswer, answersFrom, runCode, run, answered, SafeRun}
 use Rattle.rules.proofs.Tests.{cond-alike, first-code-iff}
 use Rattle.rules.proofs.Demand3.{demand-3}
@@ -71,6 +73,10 @@ answers-length call l bytes = rw (length-append, events-length, steps-length) (p
 run-accepted : (file steps buffer : List ℕ) → runCode file steps buffer ≡ 0 → fileCode file ≡ 0
 unfolding runCode
 run-accepted file steps buffer e = first-code-iff (fileCode file) _ .0 e .0
+
+-- On the way from the start line of an accepted file the record check finds nothing.
+pub start-sound : (file : List ℕ) → fileCode file ≡ 0 → Sound (startLine (decode file))
+start-sound file accepted steps = demand-3 file accepted steps .sound
 
 -- Runs with the record check before each step are those without it.
 module _ (file steps buffer : List ℕ) where

@@ -80,7 +80,7 @@ pub record Alike (r x : Train) : Type 0 where
   pub place : r .place ≡ x .place
   pub covered : r .covered ≡ x .covered
 
-around-alike : (t : Table) (routes : List ℕ) (i : ℕ) {r x : Train} → Alike r x
+pub around-alike : (t : Table) (routes : List ℕ) (i : ℕ) {r x : Train} → Alike r x
     → aroundTrain t routes i r ≡ aroundTrain t routes i x
 unfolding aroundOn
 around-alike t routes i h = rw (h .direction, h .place, h .covered)

@@ -18,7 +18,7 @@ use Rattle.rules.specs.declared.Outcome.{Outcome}
 use Rattle.rules.specs.Rows.{first}
 use Rattle.rules.specs.Track.{planAt}
 use Rattle.rules.specs.Line.{around, boxAt, trainAt, putTrain, putBox, requestKind, requestBox}
-use Rattle.rules.specs.Steps.{Step, apply, unless, requestRows, boxRows, enterRows, clearRows, withMessage, entered, cleared, enter, clear}
+use Rattle.rules.specs.Steps.{Step, apply, unless, requestRows, boxRows, enterRows, clearRows, withMessage, entered, cleared, enter, clear, concernedBox}
 use Rattle.rules.specs.History.{_answered_, lineAfter, events}
 use Rattle.rules.specs.Atomic.{Kept, isRequest, keep, added, atomicRequest, atomicStep, stopped}
 use Rattle.rules.specs.Safety.{TrainOf}
@@ -97,20 +97,20 @@ module _ (a : Line) where
       : (i : ℕ) (q : Request) → first (requestRows (around a i) (trainAt a i) q) ≡ 0
       → first (boxRows (around a i) (planAt (a .table) (requestBox q)) (boxAt a (requestBox q)) q) ≡ 0
       → atomicStep a (requestStep i q) ≡ record { code = 0; line = afterRequest a i q }
-  unfolding atomicStep atomicRequest requestKind requestBox apply unless
+  unfolding atomicStep atomicRequest isRequest requestKind requestBox apply unless
   atomic-request i (Reserve b) e f = rw (first-both (requestRows (around a i) (trainAt a i) (Reserve b)) _ e f)
   atomic-request i (Lock b) e f = rw (first-both (requestRows (around a i) (trainAt a i) (Lock b)) _ e f)
 
   atomic-enter
       : (s : Step) → s .kind ≡ 5 → first (enterRows (around a (s .train)) (trainAt a (s .train))) ≡ 0
       → atomicStep a s ≡ record { code = 0; line = afterEnter a (s .train) }
-  unfolding atomicStep enter apply unless
+  unfolding atomicStep isRequest concernedBox enter apply unless
   atomic-enter s kind e = rw (kind, e)
 
   atomic-clear
       : (s : Step) → s .kind ≡ 6 → first (clearRows (trainAt a (s .train))) ≡ 0
       → atomicStep a s ≡ record { code = 0; line = afterClear a (s .train) }
-  unfolding atomicStep clear apply unless
+  unfolding atomicStep isRequest concernedBox clear apply unless
   atomic-clear s kind e = rw (kind, e)
 
 -- A message that is sent has one request, and is no other message.

@@ -1,10 +1,11 @@
 -- What a step does to a line, one case a way of ending. Which rule a step falls under is decided here and nowhere after.
 use Prim.Native.Nat.{ℕ, zero, suc, _≤_}
-use mathlib.Core.Path.{_≡_, refl}
-use mathlib.Core.Logic.{_≢_}
-use mathlib.Core.Bool.{Bool, true, false, cond, _&&_}
+use mathlib.Core.Path.{_≡_, refl, _∙_}
+use mathlib.Core.Logic.{_≢_, ⊎-elim}
+use mathlib.Core.Bool.{Bool, true, false, cond}
 use mathlib.Core.List.{List, [], _∷_}
-use lib.Dec.{eqb, leb, eqb·suc-zero}
+use lib.Dec.{eqb, eqb·suc-zero}
+use native.Mathlib.Decide.{ℕ-discrete}
 use native.Mathlib.Omega.{arith}
 use borrow.Author.Tests.{eqb-true, eqb-false}
 use Rattle.rules.specs.declared.BoxPlan.{BoxPlan}
@@ -15,14 +16,17 @@ use Rattle.rules.specs.declared.Message.{Message}
 use Rattle.rules.specs.declared.Message.the-variants.{Idle, Sent, Answered}
 use Rattle.rules.specs.declared.Train.{Train}
 use Rattle.rules.specs.declared.Line.{Line}
+use Rattle.rules.specs.declared.Effect.{Effect}
+use Rattle.rules.specs.declared.Effect.the-variants.{Refused, Changed}
 use Rattle.rules.specs.declared.Outcome.{Outcome}
 use Rattle.rules.specs.Rows.{Row, _if_, first, outside}
 use Rattle.rules.specs.Track.{planAt}
 use Rattle.rules.specs.declared.Around.{Around}
-use Rattle.rules.specs.Line.{around, boxAt, trainAt, putTrain, requestKind, requestBox}
-use Rattle.rules.specs.Steps.{Step, addressRows, Effect, refused, trainAndBox, apply, unless, forTrain, send, reply, boxAnswers, trainHears, enter, clear, plainEffect, effect, step, requestRows, boxRows, enterRows, clearRows, withMessage, withHolding, granted, heard, entered, sensed, cleared, released}
+use Rattle.rules.specs.Line.{around, boxAt, trainAt, putTrain, requestKind, requestBox, messageBox}
+use Rattle.rules.specs.Steps.{Step, addressRows, apply, unless, send, reply, boxAnswers, trainHears, enter, clear, formed, formRows, stepRows, concernedBox, alone, effect, step, requestRows, boxRows, enterRows, clearRows, withMessage, withHolding, granted, heard, entered, sensed, cleared, released}
 use Rattle.rules.specs.Safety.{TrainOf}
-use Rattle.rules.proofs.Tests.{facts, cond-each, first-other, first-none, outside-false-iff}
+use Rattle.rules.proofs.Tests.{cond-each, first-other, first-none, outside-false-iff}
+use Rattle.rules.proofs.Steps.{formed-iff, step-row-iff}
 use Rattle.rules.proofs.Frames.{put, train-alone}
 
 -- A request is of none of the kinds 3 to 6.
@@ -119,100 +123,129 @@ clear-codes : (r : Train) → first (clearRows r) ≢ 23
 unfolding clearRows
 clear-codes r = row 20 _ _ (omega arith) no-code
 
--- A step with this effect does one of these.
-abbrev EndsIn : Line → Step → Effect → Type 0
-EndsIn l s e = Does l s (apply l (s .train) e)
+step-codes : (k : ℕ) (s : Step) → first (stepRows k s) ≢ 23
+unfolding stepRows formRows
+step-codes k s = row 13 _ _ (omega arith) (row 14 _ _ (omega arith) no-code)
+
+-- Of the kinds 3 to 6 the one that is left.
+fourth : (kind : ℕ) → 3 ≤ kind → kind ≤ 6 → kind ≢ 3 → kind ≢ 5 → kind ≢ 6 → kind ≡ 4
+fourth kind low high three five six = omega arith
+
+-- A step with this effect at box b does one of these.
+record EndsIn (l : Line) (s : Step) (b : ℕ) (e : Effect) : Type 0 where
+  ends : Does l s (apply l (s .train) b e)
 
 module _ (l : Line) (s : Step) where
-  -- A refusal; an effect chosen by a test, after a row of codes, and after code 14.
-  refusal : (c : ℕ) → c ≢ 0 → c ≢ 23 → EndsIn l s (refused c)
+  -- A refusal; an effect on the train alone; one chosen by a test, and one after a row of codes.
+  refusal : {b : ℕ} (c : ℕ) → c ≢ 0 → c ≢ 23 → EndsIn l s b (Refused c)
   unfolding apply
-  refusal c n other = refuses n other
+  refusal c n other = record { ends = refuses n other }
 
-  either : (c : Bool) (e f : Effect) → (c ≡ true → EndsIn l s e) → (c ≡ false → EndsIn l s f) → EndsIn l s (cond c e f)
-  either = cond-each (EndsIn l s)
+  changed : (b c : ℕ) (r : Train) → Does l s (record { code = c; line = putTrain l (s .train) r }) → EndsIn l s b (Changed c r (boxAt l b))
+  unfolding apply
+  changed b c r h = record { ends = rw train-alone h }
 
-  unstopped : (c : ℕ) (e : Effect) → c ≢ 23 → (c ≡ 0 → EndsIn l s e) → EndsIn l s (unless c e)
+  both : {b c : ℕ} {r : Train} {x : SwitchBox} → Does l s (record { code = c; line = put l (s .train) r b x }) → EndsIn l s b (Changed c r x)
+  unfolding apply
+  both h = record { ends = h }
+
+  either : {b : ℕ} (c : Bool) (e f : Effect) → (c ≡ true → EndsIn l s b e) → (c ≡ false → EndsIn l s b f) → EndsIn l s b (cond c e f)
+  either {b} = cond-each (EndsIn l s b)
+
+  unstopped : {b : ℕ} (c : ℕ) (e : Effect) → c ≢ 23 → (c ≡ 0 → EndsIn l s b e) → EndsIn l s b (unless c e)
   unfolding unless
   unstopped c e other f = either (eqb c 0) _ _ (λ z. f (eqb-true c 0 z)) (λ n. refusal c (eqb-false c 0 n) other)
 
-  known : (e : Effect) → (TrainOf (l .table) (s .train) → EndsIn l s e) → EndsIn l s (forTrain l (s .train) e)
-  unfolding forTrain
-  known e f =
-      either (outside (l .table .k) (s .train)) _ _ (λ _. refusal 14 (omega arith) (omega arith)) λ z.
-      let h = outside-false-iff _ _ .0 z in
-      f (omega arith)
+  module _ (train : TrainOf (l .table) (s .train)) where
+    -- Kinds 1 and 2.
+    send-ends : (b : ℕ) (q : Request) → s .kind ≡ requestKind q → s .box ≡ requestBox q
+        → EndsIn l s b (send (around l (s .train)) (trainAt l (s .train)) (boxAt l b) q)
+    unfolding send
+    send-ends b q kind box =
+        unstopped _ _ (request-codes _ _ q) λ free. changed _ _ _ (sends (record { kind = kind; box = box; train = train; free = free }))
 
-  -- Kinds 1 and 2.
-  send-ends : (q : Request) → s .kind ≡ requestKind q → s .box ≡ requestBox q → TrainOf (l .table) (s .train)
-      → EndsIn l s (send l (s .train) q)
-  unfolding send apply
-  send-ends q kind box train =
-      unstopped _ _ (request-codes _ _ q) λ free. sends (record { kind = kind; box = box; train = train; free = free })
+    -- Kind 3: a no leaves the box as it was.
+    reply-ends : (q : Request) → s .kind ≡ 3 → trainAt l (s .train) .message ≡ Sent q
+        → EndsIn l s (requestBox q)
+        (reply (around l (s .train)) (trainAt l (s .train)) (planAt (l .table) (requestBox q)) (boxAt l (requestBox q)) q)
+    unfolding reply
+    reply-ends q kind sent = go (first (boxRows (around l (s .train)) p x q)) refl
+      where
+        p : BoxPlan
+        p = planAt (l .table) (requestBox q)
 
-  -- Kind 3: a no leaves the box as it was.
-  reply-ends : (q : Request) → s .kind ≡ 3 → TrainOf (l .table) (s .train) → trainAt l (s .train) .message ≡ Sent q
-      → EndsIn l s (reply l (s .train) q)
-  unfolding reply apply
-  reply-ends q kind train sent = go (first (boxRows (around l (s .train)) p x q)) refl
-    where
-      p : BoxPlan
-      p = planAt (l .table) (requestBox q)
+        x : SwitchBox
+        x = boxAt l (requestBox q)
 
-      x : SwitchBox
-      x = boxAt l (requestBox q)
+        go
+            : (c : ℕ) → first (boxRows (around l (s .train)) p x q) ≡ c
+            → EndsIn l s (requestBox q) (
+            Changed c (withMessage (trainAt l (s .train)) (Answered q c)) (cond (eqb c 0) (granted (around l (s .train)) p x q) x))
+        go zero code = both (grants (record { kind = kind; train = train; sent = sent; code = code }))
+        go (suc c) code =
+            rw eqb·suc-zero
+            (changed _ _ _ (denies (record { kind = kind; train = train; sent = sent; code = code }) (omega arith)))
 
-      go
-          : (c : ℕ) → first (boxRows (around l (s .train)) p x q) ≡ c
-          → EndsIn l s (
-          trainAndBox c (withMessage (trainAt l (s .train)) (Answered q c)) (requestBox q)
-          (cond (eqb c 0) (granted (around l (s .train)) p x q) x))
-      go zero code = grants (record { kind = kind; train = train; sent = sent; code = code })
-      go (suc c) code =
-          rw (eqb·suc-zero, train-alone)
-          (denies (record { kind = kind; train = train; sent = sent; code = code }) (omega arith))
+    answer-ends : (g : Message) → trainAt l (s .train) .message ≡ g → s .kind ≡ 3
+        → EndsIn l s (messageBox g)
+        (boxAnswers (around l (s .train)) (trainAt l (s .train)) (planAt (l .table) (messageBox g)) (boxAt l (messageBox g)) g)
+    unfolding boxAnswers messageBox
+    answer-ends Idle e kind = refusal 21 (omega arith) (omega arith)
+    answer-ends (Sent q) e kind = reply-ends q kind e
+    answer-ends (Answered q c) e kind = refusal 21 (omega arith) (omega arith)
 
-  answer-ends : (g : Message) → trainAt l (s .train) .message ≡ g → s .kind ≡ 3 → TrainOf (l .table) (s .train)
-      → EndsIn l s (boxAnswers l (s .train) g)
-  unfolding boxAnswers
-  answer-ends Idle e kind train = refusal 21 (omega arith) (omega arith)
-  answer-ends (Sent q) e kind train = reply-ends q kind train e
-  answer-ends (Answered q c) e kind train = refusal 21 (omega arith) (omega arith)
+    -- Kind 4.
+    hear-ends : (b : ℕ) (g : Message) → trainAt l (s .train) .message ≡ g → s .kind ≡ 4
+        → EndsIn l s b (trainHears (around l (s .train)) (trainAt l (s .train)) (boxAt l b) g)
+    unfolding trainHears
+    hear-ends b Idle e kind = refusal 21 (omega arith) (omega arith)
+    hear-ends b (Sent q) e kind = refusal 21 (omega arith) (omega arith)
+    hear-ends b (Answered q c) e kind = changed _ _ _ (hears (record { kind = kind; train = train; answer = e }))
 
-  -- Kind 4.
-  hear-ends : (g : Message) → trainAt l (s .train) .message ≡ g → s .kind ≡ 4 → TrainOf (l .table) (s .train)
-      → EndsIn l s (trainHears l (s .train) g)
-  unfolding trainHears apply
-  hear-ends Idle e kind train = refusal 21 (omega arith) (omega arith)
-  hear-ends (Sent q) e kind train = refusal 21 (omega arith) (omega arith)
-  hear-ends (Answered q c) e kind train = hears (record { kind = kind; train = train; answer = e })
+    -- Kinds 5 and 6.
+    enter-ends : s .kind ≡ 5
+        → EndsIn l s (around l (s .train) .ahead) (enter (around l (s .train)) (trainAt l (s .train)) (boxAt l (around l (s .train) .ahead)))
+    unfolding enter
+    enter-ends kind = unstopped _ _ (enter-codes _ _) λ free. both (enters (record { kind = kind; train = train; free = free }))
 
-  -- Kinds 5 and 6.
-  enter-ends : s .kind ≡ 5 → TrainOf (l .table) (s .train) → EndsIn l s (enter l (s .train))
-  unfolding enter apply
-  enter-ends kind train = unstopped _ _ (enter-codes _ _) λ free. enters (record { kind = kind; train = train; free = free })
+    clear-ends : s .kind ≡ 6
+        → EndsIn l s (around l (s .train) .passed)
+        (clear (around l (s .train)) (trainAt l (s .train)) (planAt (l .table) (around l (s .train) .passed)) (boxAt l (around l (s .train) .passed)))
+    unfolding clear
+    clear-ends kind = unstopped _ _ (clear-codes _) λ free. both (clears (record { kind = kind; train = train; free = free }))
 
-  clear-ends : s .kind ≡ 6 → TrainOf (l .table) (s .train) → EndsIn l s (clear l (s .train))
-  unfolding clear apply
-  clear-ends kind train = unstopped _ _ (clear-codes _) λ free. clears (record { kind = kind; train = train; free = free })
-
-  -- Kinds 3 to 6.
-  plain-ends : 3 ≤ s .kind → s .kind ≤ 6 → TrainOf (l .table) (s .train) → EndsIn l s (plainEffect l (s .kind) (s .train))
-  unfolding plainEffect
-  plain-ends low high train =
-      either (eqb (s .kind) 3) _ _ (λ e. answer-ends _ refl (eqb-true _ 3 e) train) λ a.
-      either (eqb (s .kind) 4) _ _ (λ e. hear-ends _ refl (eqb-true _ 4 e) train) λ b.
-      either (eqb (s .kind) 5) _ _ (λ e. enter-ends (eqb-true _ 5 e) train) λ c.
-      clear-ends (omega (arith, eqb-false)) train
+    -- A step that row Step does not stop, by its kind.
+    effect-ends : (kind : ℕ) → s .kind ≡ kind → formed kind (s .box) ≡ true
+        → let b = concernedBox kind (around l (s .train)) (trainAt l (s .train)) in
+        EndsIn l s b (effect kind (s .box) (around l (s .train)) (trainAt l (s .train)) (planAt (l .table) b) (boxAt l b))
+    unfolding effect alone concernedBox requestKind requestBox
+    effect-ends kind e h =
+        elim (ℕ-discrete kind 3) [
+          | yes a ↦ rw a (answer-ends _ refl (e ∙ a))
+          | no a ↦ elim (ℕ-discrete kind 5) [
+            | yes b ↦ rw b (enter-ends (e ∙ b))
+            | no b ↦ elim (ℕ-discrete kind 6) [
+              | yes c ↦ rw c (clear-ends (e ∙ c))
+              | no c ↦ elim (ℕ-discrete kind 1) [
+                | yes d ↦ rw d (send-ends 0 (Reserve (s .box)) (e ∙ d) refl)
+                | no d ↦ elim (ℕ-discrete kind 2) [
+                  | yes f ↦ rw f (send-ends 0 (Lock (s .box)) (e ∙ f) refl)
+                  | no f ↦
+                      let g : kind ≡ 4 = ⊎-elim (λ ask. absurd (omega arith)) (λ plain. fourth kind (plain .0 .0) (plain .0 .1) a b c) (formed-iff _ _ .0 h) in
+                      rw g (hear-ends 0 _ refl (e ∙ g))
+                ]
+              ]
+            ]
+          ]
+        ]
 
   -- Every step does one of these.
   pub does : Does l s (step l s)
-  unfolding step effect requestKind requestBox
+  unfolding step
   does =
-      either (eqb (s .kind) 1) _ _ (λ e. known _ (send-ends (Reserve (s .box)) (eqb-true _ 1 e) refl)) λ _.
-      either (eqb (s .kind) 2) _ _ (λ e. known _ (send-ends (Lock (s .box)) (eqb-true _ 2 e) refl)) λ _.
-      either (leb 3 (s .kind) && leb (s .kind) 6) _ _
-      (λ e.
-      let (low, high) = simp facts at e in
-      either (eqb (s .box) 0) _ _ (λ _. known _ (plain-ends low high)) (λ _. refusal 13 (omega arith) (omega arith)))
-      (λ _. refusal 13 (omega arith) (omega arith))
+      unstopped _ _ (step-codes (l .table .k) s)
+      (λ free.
+      let (form, inside) = step-row-iff (l .table .k) s .0 free in
+      let number = outside-false-iff _ _ .0 inside in
+      effect-ends (omega arith) (s .kind) refl form)
+      .ends

@@ -7,12 +7,18 @@ use mathlib.Core.Option.{Option, none, some}
 use lib.Dec.{eqb}
 use Rattle.rules.specs.declared.Request.{Request}
 use Rattle.rules.specs.declared.Request.the-variants.{Reserve, Lock}
+use Rattle.rules.specs.declared.BoxPlan.{BoxPlan}
+use Rattle.rules.specs.declared.SwitchBox.{SwitchBox}
+use Rattle.rules.specs.declared.Train.{Train}
 use Rattle.rules.specs.declared.Line.{Line}
+use Rattle.rules.specs.declared.Around.{Around}
+use Rattle.rules.specs.declared.Effect.{Effect}
+use Rattle.rules.specs.declared.Effect.the-variants.{Refused, Changed}
 use Rattle.rules.specs.declared.Outcome.{Outcome}
 use Rattle.rules.specs.Rows.{first}
 use Rattle.rules.specs.Track.{planAt}
-use Rattle.rules.specs.Line.{around, boxAt, trainAt, requestBox}
-use Rattle.rules.specs.Steps.{Step, Effect, refused, trainAndBox, apply, unless, requestRows, boxRows, granted, withHolding, enter, clear}
+use Rattle.rules.specs.Line.{around, boxAt, trainAt}
+use Rattle.rules.specs.Steps.{Step, apply, unless, requestRows, boxRows, granted, withHolding, enter, clear, concernedBox}
 use Rattle.rules.specs.History.{Event}
 
 -- The last request of each train that was answered 0.
@@ -43,23 +49,23 @@ order es = orderFrom (λ i. none) es
 
 -- An atomic request: kind 1 or 2, then 3 and 4, in one. Where no code of its rows stops it, the box grants it and the train
 -- records the holding at once.
-unfoldable pub atomicRequest : Line → ℕ → Request → Effect
-atomicRequest l i q =
-    let v = around l i in
-    let r = trainAt l i in
-    let b = requestBox q in
-    let p = planAt (l .table) b in
-    let x = boxAt l b in
-    unless (first (requestRows v r q ++ boxRows v p x q)) (trainAndBox 0 (withHolding v r q) b (granted v p x q))
+unfoldable pub atomicRequest : Around → Train → BoxPlan → SwitchBox → Request → Effect
+atomicRequest v r p x q =
+    unless (first (requestRows v r q ++ boxRows v p x q)) (Changed 0 (withHolding v r q) (granted v p x q))
 
--- An atomic step: a request, or a move as kind 5 or 6 has it. What is stopped has a code other than 0 and changes nothing.
+-- An atomic step: a request at its box, or a move as kind 5 or 6 has it. What is stopped has a code other than 0 and changes nothing.
 unfoldable pub atomicStep : Line → Step → Outcome
 atomicStep l s =
     let i = s .train in
-    apply l i
-    (cond (eqb (s .kind) 1) (atomicRequest l i (Reserve (s .box)))
-    (cond (eqb (s .kind) 2) (atomicRequest l i (Lock (s .box)))
-    (cond (eqb (s .kind) 5) (enter l i) (cond (eqb (s .kind) 6) (clear l i) (refused 13)))))
+    let v = around l i in
+    let r = trainAt l i in
+    let b = cond (isRequest s) (s .box) (concernedBox (s .kind) v r) in
+    let p = planAt (l .table) b in
+    let x = boxAt l b in
+    apply l i b
+    (cond (eqb (s .kind) 1) (atomicRequest v r p x (Reserve (s .box)))
+    (cond (eqb (s .kind) 2) (atomicRequest v r p x (Lock (s .box)))
+    (cond (eqb (s .kind) 5) (enter v r x) (cond (eqb (s .kind) 6) (clear v r p x) (Refused 13)))))
 
 -- Some atomic step was stopped.
 unfoldable pub stopped : List Event → Bool

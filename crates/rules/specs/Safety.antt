@@ -19,6 +19,10 @@ pub record TrainOf (t : Table) (i : ℕ) : Type 0 where
   pub low : 1 ≤ i
   pub high : i ≤ t .k
 
+-- The record check (27) finds nothing on the line and on any line that steps reach from it.
+abbrev pub Sound : Line → Type 0
+Sound l = (steps : List Step) → recordFault (lineAfter step l steps) ≡ false
+
 -- The segment at place p of train i's route in the table.
 abbrev pub onRoute : Table → ℕ → ℕ → ℕ
 onRoute t i p = routeAt (t .routes) i p

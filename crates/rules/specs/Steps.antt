@@ -1,5 +1,5 @@
 -- The steps of a line (01, "Steps" and the rows Step, Train, Message and Box of its codes). A step concerns one train and at
--- most one box: it is refused, or it changes that train, or that train and that box.
+-- most one box: what it does is said of these two, and put back into the line.
 use Prim.Native.Nat.{ℕ, _+_, _-_}
 use mathlib.Core.Bool.{Bool, true, false, cond, not, _&&_, _||_}
 use mathlib.Core.List.{List, [], _∷_, _++_}
@@ -12,11 +12,13 @@ use Rattle.rules.specs.declared.Message.{Message}
 use Rattle.rules.specs.declared.Message.the-variants.{Idle, Sent, Answered}
 use Rattle.rules.specs.declared.Train.{Train}
 use Rattle.rules.specs.declared.Line.{Line}
+use Rattle.rules.specs.declared.Effect.{Effect}
+use Rattle.rules.specs.declared.Effect.the-variants.{Refused, Changed}
 use Rattle.rules.specs.declared.Outcome.{Outcome}
 use Rattle.rules.specs.Rows.{Row, _if_, first, outside}
 use Rattle.rules.specs.Track.{planAt, joins}
 use Rattle.rules.specs.declared.Around.{Around}
-use Rattle.rules.specs.Line.{around, boxAt, trainAt, putTrain, putBox, holderOf, setHolder, requestBox}
+use Rattle.rules.specs.Line.{around, boxAt, trainAt, putTrain, putBox, holderOf, setHolder, messageBox}
 
 -- A step: three bytes.
 pub record Step : Type 0 where
@@ -24,17 +26,10 @@ pub record Step : Type 0 where
   pub train : ℕ
   pub box : ℕ
 
--- What a step does: refused with a code, nothing changed; or a code, the train after it and, with its number, the box
--- after it.
-pub data Effect : Type 0 where
-  refused : ℕ → Effect
-  train : ℕ → Train → Effect
-  trainAndBox : ℕ → Train → ℕ → SwitchBox → Effect
-
-unfoldable pub apply : Line → ℕ → Effect → Outcome
-apply l i (refused c) = record { code = c; line = l }
-apply l i (train c r) = record { code = c; line = putTrain l i r }
-apply l i (trainAndBox c r b x) = record { code = c; line = putBox (putTrain l i r) b x }
+-- What the effect of a step of train i at box b means: its code, and the line as it was, or with the train and the box put back.
+unfoldable pub apply : Line → ℕ → ℕ → Effect → Outcome
+apply l i b (Refused c) = record { code = c; line = l }
+apply l i b (Changed c r x) = record { code = c; line = putBox (putTrain l i r) b x }
 
 -- The most segments that a train may cover.
 abbrev pub mostCovered : ℕ
@@ -204,28 +199,23 @@ released p x s z =
 
 -- An effect where a row stops nothing, and the row's code where it does.
 unfoldable pub unless : ℕ → Effect → Effect
-unless c e = cond (eqb c 0) e (refused c)
+unless c e = cond (eqb c 0) e (Refused c)
 
--- Kinds 1 and 2: the message is sent.
-unfoldable pub send : Line → ℕ → Request → Effect
-send l i q =
-    let r = trainAt l i in
-    unless (first (requestRows (around l i) r q)) (train 0 (withMessage r (Sent q)))
+-- The kinds of steps, each by the train's record r, what stands around it, v, and the plan p and the record x of the box that the
+-- step concerns. Kinds 1 and 2: the message is sent.
+unfoldable pub send : Around → Train → SwitchBox → Request → Effect
+send v r x q = unless (first (requestRows v r q)) (Changed 0 (withMessage r (Sent q)) x)
 
 -- Kind 3: the box answers a message that is sent. A no leaves the box as it was.
-unfoldable pub reply : Line → ℕ → Request → Effect
-reply l i q =
-    let v = around l i in
-    let b = requestBox q in
-    let p = planAt (l .table) b in
-    let x = boxAt l b in
+unfoldable pub reply : Around → Train → BoxPlan → SwitchBox → Request → Effect
+reply v r p x q =
     let c = first (boxRows v p x q) in
-    trainAndBox c (withMessage (trainAt l i) (Answered q c)) b (cond (eqb c 0) (granted v p x q) x)
+    Changed c (withMessage r (Answered q c)) (cond (eqb c 0) (granted v p x q) x)
 
-unfoldable pub boxAnswers : Line → ℕ → Message → Effect
-boxAnswers l i Idle = refused 21
-boxAnswers l i (Sent q) = reply l i q
-boxAnswers l i (Answered q c) = refused 21
+unfoldable pub boxAnswers : Around → Train → BoxPlan → SwitchBox → Message → Effect
+boxAnswers v r p x Idle = Refused 21
+boxAnswers v r p x (Sent q) = reply v r p x q
+boxAnswers v r p x (Answered q c) = Refused 21
 
 -- The train after it has heard an answer: a yes is recorded, and the message is gone.
 unfoldable pub heard : Around → Train → Request → ℕ → Train
@@ -234,47 +224,52 @@ heard v r q c =
     cond (eqb c 0) (withHolding v gone q) gone
 
 -- Kind 4: the train hears an answer that is on its way, with the answer's code.
-unfoldable pub trainHears : Line → ℕ → Message → Effect
-trainHears l i Idle = refused 21
-trainHears l i (Sent q) = refused 21
-trainHears l i (Answered q c) = train c (heard (around l i) (trainAt l i) q c)
+unfoldable pub trainHears : Around → Train → SwitchBox → Message → Effect
+trainHears v r x Idle = Refused 21
+trainHears v r x (Sent q) = Refused 21
+trainHears v r x (Answered q c) = Changed c (heard v r q c) x
 
--- Kind 5.
-unfoldable pub enter : Line → ℕ → Effect
-enter l i =
-    let v = around l i in
-    let r = trainAt l i in
-    unless (first (enterRows v r)) (trainAndBox 0 (entered r) (v .ahead) (sensed (boxAt l (v .ahead))))
+-- Kind 5, at the box ahead, and kind 6, at the box passed.
+unfoldable pub enter : Around → Train → SwitchBox → Effect
+enter v r x = unless (first (enterRows v r)) (Changed 0 (entered r) (sensed x))
 
--- Kind 6.
-unfoldable pub clear : Line → ℕ → Effect
-clear l i =
-    let v = around l i in
-    let r = trainAt l i in
-    let b = v .passed in
-    unless (first (clearRows r))
-    (trainAndBox 0 (cleared r) b (released (planAt (l .table) b) (boxAt l b) (v .tail) (v .second)))
+unfoldable pub clear : Around → Train → BoxPlan → SwitchBox → Effect
+clear v r p x = unless (first (clearRows r)) (Changed 0 (cleared r) (released p x (v .tail) (v .second)))
 
--- Code 14 comes before what train i does.
-unfoldable pub forTrain : Line → ℕ → Effect → Effect
-forTrain l i e = cond (outside (l .table .k) i) (refused 14) e
+-- There is such a step: kinds 1 and 2 have a box byte, kinds 3 to 6 have none, and there is no other kind.
+unfoldable pub formed : ℕ → ℕ → Bool
+formed kind box = (leb 1 kind && leb kind 2) || (leb 3 kind && leb kind 6 && eqb box 0)
 
--- Kinds 3 to 6, which have no box byte.
-unfoldable pub plainEffect : Line → ℕ → ℕ → Effect
-plainEffect l kind i =
-    cond (eqb kind 3) (boxAnswers l i (trainAt l i .message))
-    (cond (eqb kind 4) (trainHears l i (trainAt l i .message)) (cond (eqb kind 5) (enter l i) (clear l i)))
+-- Row Step. Its code 13, which comes before the train is looked for, stands by itself.
+unfoldable pub formRows : ℕ → ℕ → List Row
+formRows kind box = 13 if not (formed kind box) ∷ []
 
--- A step by its kind: 1, 2, 3 to 6, and all others.
-unfoldable pub effect : Line → Step → Effect
-effect l s =
-    let i = s .train in
-    let b = s .box in
-    cond (eqb (s .kind) 1) (forTrain l i (send l i (Reserve b)))
-    (cond (eqb (s .kind) 2) (forTrain l i (send l i (Lock b)))
-    (cond (leb 3 (s .kind) && leb (s .kind) 6)
-    (cond (eqb b 0) (forTrain l i (plainEffect l (s .kind) i)) (refused 13))
-    (refused 13)))
+unfoldable pub stepRows : ℕ → Step → List Row
+stepRows k s = formRows (s .kind) (s .box) ++ (14 if outside k (s .train) ∷ [])
 
+-- The box that a step concerns: the box of the message, the box ahead, the box passed; 0 where it is the train's alone.
+unfoldable pub concernedBox : ℕ → Around → Train → ℕ
+concernedBox kind v r =
+    cond (eqb kind 3) (messageBox (r .message)) (cond (eqb kind 5) (v .ahead) (cond (eqb kind 6) (v .passed) 0))
+
+-- The kinds that are the train's alone: 1, 2 and 4.
+unfoldable pub alone : ℕ → ℕ → Around → Train → SwitchBox → Effect
+alone kind box v r x =
+    cond (eqb kind 1) (send v r x (Reserve box))
+    (cond (eqb kind 2) (send v r x (Lock box)) (trainHears v r x (r .message)))
+
+-- What a step does that row Step does not stop, by its kind.
+unfoldable pub effect : ℕ → ℕ → Around → Train → BoxPlan → SwitchBox → Effect
+effect kind box v r p x =
+    cond (eqb kind 3) (boxAnswers v r p x (r .message))
+    (cond (eqb kind 5) (enter v r x) (cond (eqb kind 6) (clear v r p x) (alone kind box v r x)))
+
+-- A step on a line: its effect on train i and on the box that it concerns, put back.
 unfoldable pub step : Line → Step → Outcome
-step l s = apply l (s .train) (effect l s)
+step l s =
+    let i = s .train in
+    let v = around l i in
+    let r = trainAt l i in
+    let b = concernedBox (s .kind) v r in
+    apply l i b
+    (unless (first (stepRows (l .table .k) s)) (effect (s .kind) (s .box) v r (planAt (l .table) b) (boxAt l b)))

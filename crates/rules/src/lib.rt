@@ -98,6 +98,13 @@ pub struct Around {
     pub passed: u8,
 }
 
+// What a step does to its train and to the box that it concerns: refused with a code, nothing changed; or a code, and the train and
+// the box after it.
+pub enum Effect {
+    Refused(u8),
+    Changed(u8, Train, SwitchBox),
+}
+
 // What a call on a line ends in: a code, and the line after it.
 pub struct Outcome {
     pub code: u8,

@@ -5,7 +5,7 @@ use borrow.Author.Needs.{needs}
 use Rattle.rules.specs.declared.Outcome.{Outcome}
 use Rattle.rules.specs.Line.{emptyLine}
 use Rattle.rules.specs.Run.{stepCount}
-use Rattle.engine.proofs.Runs.{run-refused, run-short, run-called}
+use Rattle.running.proofs.Runs.{run-refused, run-short, run-called}
 use Rattle.bench.proofs.bench_steps.Statement.{statement}
 use Rattle.bench.proofs.bench_steps.Tie as tie
 

@@ -6,7 +6,7 @@ use borrow.Author.Needs.{needs}
 use lib.ListN.{length, set, length-set}
 use Rattle.rules.specs.Record.{checkedStep}
 use Rattle.rules.specs.Run.{stepCount}
-use Rattle.engine.proofs.Running.{Running, running-start, running-turn, running-room, running-line, running-whole, running-partial}
+use Rattle.running.proofs.Running.{Running, running-start, running-turn, running-room, running-line, running-whole, running-partial}
 use Rattle.bench.proofs.called.Statement.{statement}
 use Rattle.bench.proofs.called.Tie as tie
 

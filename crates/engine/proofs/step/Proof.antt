@@ -1,12 +1,16 @@
--- By the three parts of the record check, and then as one step of the loop.
-use mathlib.Core.Path.{_≡_, sym, _∙_}
+-- By the three parts of the record check, then by 13 and 14, and then by what is decided.
+use Prim.Native.Nat.{suc, _-_, _≤_}
+use mathlib.Core.Path.{_≡_, refl, sym, _∙_}
 use native.Mathlib.Omega.{arith}
 use borrow.Author.Needs.{needs}
 use lib.ListN.{length}
+use Rattle.rules.specs.Rows.{nth}
+use Rattle.rules.specs.Track.{planAt}
+use Rattle.rules.specs.Line.{around, boxAt}
 use Rattle.rules.specs.Steps.{Step}
-use Rattle.rules.specs.Run.{stepCount}
 use Rattle.rules.proofs.Rows.{length-mapped}
-use Rattle.engine.proofs.Single.{Coded, Passed, table-faulty, train-faulty, box-faulty, passed-trains, single-taken}
+use Rattle.running.proofs.Turn.{Taken, takes, one-more, Turned, train-within, turned, concerned-within}
+use Rattle.engine.proofs.Single.{Coded, Passed, table-faulty, train-faulty, box-faulty, sound, single-unformed, single-unknown, single-viewed, single-refused, single-alone, single-changed}
 use Rattle.engine.proofs.step.Statement.{statement}
 use Rattle.engine.proofs.step.Tie as tie
 
@@ -19,7 +23,7 @@ plans-sized c = search (needs, length-mapped, c .good .0 .1 .1 .0)
 
 -- The start of the call, and the step that is asked for.
 abbrev start : tie.After-parts-code → tie.Start
-start c = c .before .before .before .before .before .before .before .before .before .before .before .before
+start c = c .before .before .before .before .before .before .before .before .before .before .before
 
 abbrev asked : tie.After-parts-code → Step
 asked c =
@@ -56,30 +60,93 @@ returns-3 c =
     box-faulty (coded (at-trains trains)) (asked (at-trains trains)) (sym (c .before .some-box-faulty .ensures) ∙ c .if3 .taken)
 
 -- Nothing was found.
+abbrev checked : tie.Else3 → tie.After-parts-code
+checked c = at-trains (c .before .before .before .before)
+
 passed : (c : tie.Else3)
-    → let table = at-trains (c .before .before .before .before) in
+    → let table = checked c in
     let kinds = table .before .before .before .before .before in
     Passed (start table .args .t1) (kinds .before .before .far-boxes .result) (kinds .before .far-boxes2 .result) (kinds .kinds .result) (table .parts-code .result)
 passed c =
     let boxes = c .before in
-    let trains = boxes .before .before .before in
+    let trains = c .before .before .before .before in
     record {
       coded = coded (at-trains trains);
       table = trains .before .before .before .before .before .before .before .if1 .left;
-      trains = sym (trains .some-train-faulty .ensures) ∙ boxes .before .before .if2 .left;
+      trains = sym (trains .some-train-faulty .ensures) ∙ c .before .before .before .if2 .left;
       boxes = sym (boxes .some-box-faulty .ensures) ∙ c .if3 .left;
     }
 
-advance-requires : tie.Need-advance-requires
-unfolding stepCount
-advance-requires c κs =
-    let found = passed (c .before .before .before .before .before .before .before) in
-    (omega arith, (passed-trains found, found .coded .columns))
-
 returns-4 : tie.Need-returns-4
 returns-4 c =
-    let taken = c .before .before .before in
-    single-taken (passed (taken .before .before .before .before .before .before .before .before)) _ _ _ _ _ _ (taken .advance .ensures .0) (taken .advance .ensures .1)
+    let found = c .before .before in
+    single-unformed (passed found) (asked (checked found)) _ (c .before .form-code .ensures) (c .if4 .taken)
+
+returns-5 : tie.Need-returns-5
+returns-5 c =
+    let found = c .before .before .before .before in
+    let form = c .before .before in
+    single-unknown (passed found) (asked (checked found)) _ (form .before .form-code .ensures) (form .if4 .left) _ (c .before .known .ensures) (c .if5 .taken)
+
+-- 13 and 14 do not stop the step.
+free : (c : tie.Else5)
+    → let table = checked (c .before .before .before .before) in
+    Taken (start table .args .t1 .table) (asked table) (asked table .train - 1)
+free c =
+    let table = checked (c .before .before .before .before) in
+    let form = c .before .before in
+    takes _ (asked table) _ _ _ (form .before .form-code .ensures) (form .if4 .left) (c .before .known .ensures) (c .if5 .left) refl
+
+train-room : (c : tie.Else5) → let train = asked (checked (c .before .before .before .before)) .train in (1 ≤ train) × (train ≤ 16)
+train-room c = train-within _ _ _ (sound (passed (c .before .before .before .before))) (free c)
+
+-- What stands around the train is looked up.
+abbrev found : tie.After-around → tie.Else3
+found c = c .before .before .before .before .before .before .before .before .before .before .before
+
+taken : (c : tie.After-around) → Taken (start (checked (found c)) .args .t1 .table) (asked (checked (found c))) (asked (checked (found c)) .train - 1)
+taken c = free (c .before .before .before .before .before .before .before)
+
+viewed : (c : tie.After-around) → c .around .result ≡ around (start (checked (found c)) .args .t1) (asked (checked (found c)) .train)
+viewed c = single-viewed (passed (found c)) (taken c) _ (c .around .ensures)
+
+box-room : (c : tie.Else6) → (1 ≤ c .before .concerned .result) × (c .before .concerned .result ≤ 96)
+box-room c =
+    let view = c .before .before in
+    concerned-within _ (asked (checked (found view))) _ (sound (passed (found view))) (taken view) _ (viewed view) _ (c .before .concerned .ensures) (c .if6 .left)
+
+-- What is decided without a box, and at one, is the step.
+alone : (c : tie.After-decide)
+    → let view = c .before .before .before .before .before in
+    Turned (start (checked (found view)) .args .t1) (asked (checked (found view))) (asked (checked (found view)) .train - 1) 0 (c .decide .result)
+unfolding planAt boxAt nth
+alone c =
+    let view = c .before .before .before .before .before in
+    turned _ (asked (checked (found view))) _ (sound (passed (found view))) (taken view) _ (viewed view) 0 _
+    (sym (c .before .before .before .if6 .taken) ∙ c .before .before .before .before .concerned .ensures)
+    (rw (c .before .before .no-plan .ensures, c .before .no-box .ensures) at (c .decide .ensures))
+
+at-box : (c : tie.After-decide2)
+    → let view = c .before .before .before .before .before in
+    Turned (start (checked (found view)) .args .t1) (asked (checked (found view))) (asked (checked (found view)) .train - 1)
+    (suc (c .before .before .before .before .concerned .result - 1)) (c .decide2 .result)
+unfolding planAt boxAt nth
+at-box c =
+    let view = c .before .before .before .before .before in
+    turned _ (asked (checked (found view))) _ (sound (passed (found view))) (taken view) _ (viewed view) _ _
+    (sym (one-more refl (box-room (c .before .before .before) .0)) ∙ c .before .before .before .before .concerned .ensures) (c .decide2 .ensures)
+
+returns-6 : tie.Need-returns-6
+returns-6 c = single-refused (passed (found (c .before .before .before .before .before .before .before .before))) (alone (c .before .before .before)) (c .before .d .given .1)
+
+returns-7 : tie.Need-returns-7
+returns-7 c = single-alone (passed (found (c .before .before .before .before .before .before .before .before))) (alone (c .before .before .before)) (c .before .d2 .given .1)
+
+returns-8 : tie.Need-returns-8
+returns-8 c = single-refused (passed (found (c .before .before .before .before .before .before .before .before))) (at-box (c .before .before .before)) (c .before .d3 .given .1)
+
+returns-9 : tie.Need-returns-9
+returns-9 c = single-changed (passed (found (c .before .before .before .before .before .before .before .before))) (at-box (c .before .before .before)) (c .before .d4 .given .1)
 
 pub step-spec : {M : Type 1} → statement M
 step-spec =
@@ -94,8 +161,37 @@ step-spec =
     returns-2
     (λ c κs. search needs)
     returns-3
+    (λ c κs. search needs)
+    returns-4
+    (λ c κs. search needs)
+    returns-5
+    (λ c. omega (arith, train-room (c)))
+    (λ c. omega (arith, train-room (c)))
+    (λ c. omega (arith, train-room (c)))
+    (λ c. omega (arith, train-room (c)))
+    (λ c κs. search needs)
+    (λ c κs. search needs)
+    (λ c κs. search needs)
+    (λ c κs. search needs)
+    (λ c κs. search needs)
     (λ c. search needs)
     (λ c. search needs)
-    advance-requires
+    (λ c. omega (arith, train-room (c .before .before .before .before .before .before .before .before .before .before .before .before .before .before .before)))
+    (λ c. omega (arith, train-room (c .before .before .before .before .before .before .before .before .before .before .before .before .before .before .before)))
+    (λ c. omega (arith, box-room (c)))
+    (λ c. omega (arith, box-room (c)))
+    (λ c. omega (arith, box-room (c)))
+    (λ c. omega (arith, box-room (c)))
+    (λ c. omega (arith, box-room (c .before)))
+    (λ c. omega (arith, box-room (c .before)))
+    (λ c κs. search needs)
     (λ c. search needs)
-    returns-4)
+    (λ c. search needs)
+    (λ c. omega (arith, train-room (c .before .before .before .before .before .before .before .before .before .before .before .before .before .before .before)))
+    (λ c. omega (arith, train-room (c .before .before .before .before .before .before .before .before .before .before .before .before .before .before .before)))
+    (λ c. omega (arith, box-room (c .before .before .before .before .before .before)))
+    (λ c. omega (arith, box-room (c .before .before .before .before .before .before)))
+    returns-6
+    returns-7
+    returns-8
+    returns-9)

@@ -1,28 +1,33 @@
 -- A refused code is the code of the rows; where there is none, place and count have room for one more.
-use mathlib.Core.Path.{refl}
+use Prim.Native.Nat.{ℕ, _<_}
+use mathlib.Core.Path.{_≡_, refl, sym, _∙_}
 use native.Mathlib.Omega.{arith}
-use borrow.Author.Tests.{eq-eqb}
 use borrow.Author.Needs.{needs}
-use Rattle.rules.proofs.Tests.{tests, cond-first}
-use Rattle.rules.specs.Steps.{entered, sensed}
-use Rattle.deciding.specs.Decided.{entering}
-use Rattle.deciding.proofs.Decisions.{enter-room}
+use Rattle.rules.specs.declared.Train.{Train}
+use Rattle.rules.specs.declared.Around.{Around}
+use Rattle.rules.specs.Rows.{first}
+use Rattle.rules.specs.Steps.{enterRows, entered, sensed, enter}
+use Rattle.rules.proofs.Steps.{unless-stopped, unless-free}
+use Rattle.rules.proofs.StepRows.{enter-iff}
 use Rattle.deciding.proofs.moves.enter.Statement.{statement}
 use Rattle.deciding.proofs.moves.enter.Tie as tie
 
+room : (v : Around) (r : Train) (code : ℕ) → code ≡ first (enterRows v r) → code ≡ 0 → (r .covered < 2) × (r .place < r .length)
+room v r code e none = let free = enter-iff v r .0 (sym e ∙ none) in (free .0, free .1 .0)
+
 returns : tie.Need-returns
-unfolding entering
-returns c = rw (← c .before .before .enter-code .ensures) (search tests)
+unfolding enter
+returns c = rw (← c .before .enter-code .ensures) (unless-stopped _ _ (c .if1 .taken))
 
-add-t9 : tie.Need-add-t9
-add-t9 c = let room = enter-room _ _ _ (c .before .before .enter-code .ensures) (c .before .if1 .left) in omega arith
+add-train : tie.Need-add-train
+add-train c = let free = room _ _ _ (c .before .before .enter-code .ensures) (c .before .if1 .left) in omega arith
 
-add-t10 : tie.Need-add-t10
-add-t10 c = let room = enter-room _ _ _ (c .before .before .before .enter-code .ensures) (c .before .before .if1 .left) in omega arith
+add-train-2 : tie.Need-add-train-2
+add-train-2 c = let free = room _ _ _ (c .before .before .before .enter-code .ensures) (c .before .before .if1 .left) in omega arith
 
 returns-2 : tie.Need-returns-2
-unfolding entering entered sensed
-returns-2 c = rw (← c .before .before .before .enter-code .ensures) (cond-first _ _ _ _ (eq-eqb _ _ (c .before .before .if1 .left)) refl)
+unfolding enter entered sensed
+returns-2 c = rw (← c .before .before .before .enter-code .ensures) (unless-free _ _ (c .before .before .if1 .left))
 
 pub enter-spec : {M : Type 1} → statement M
-enter-spec = tie.close (tie.spec (λ c κs. search needs) (λ c κs. search needs) returns add-t9 add-t10 returns-2)
+enter-spec = tie.close (tie.spec (λ c κs. search needs) returns add-train add-train-2 returns-2)

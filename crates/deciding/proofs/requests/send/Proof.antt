@@ -1,16 +1,18 @@
 -- By the code.
 use borrow.Author.Needs.{needs}
-use Rattle.deciding.proofs.Decisions.{send-refused, send-free}
+use Rattle.rules.specs.Steps.{send}
+use Rattle.rules.proofs.Steps.{unless-stopped, unless-free}
 use Rattle.deciding.proofs.requests.send.Statement.{statement}
 use Rattle.deciding.proofs.requests.send.Tie as tie
 
 returns : tie.Need-returns
-returns c =
-    send-refused _ _ _ _ _ (c .before .before .request-code .ensures) _ (c .before .if1 .taken) (c .refused .ensures)
+unfolding send
+returns c = rw (← c .before .request-code .ensures) (unless-stopped _ _ (c .if1 .taken))
 
 returns-2 : tie.Need-returns-2
+unfolding send
 returns-2 c =
-    send-free _ _ _ _ _ (c .before .before .request-code .ensures) _ (c .before .if1 .left) (c .with-message .ensures)
+    rw (← c .before .before .request-code .ensures, c .with-message .ensures) (unless-free _ _ (c .before .if1 .left))
 
 pub send-spec : {M : Type 1} → statement M
-send-spec = tie.close (tie.spec (λ c κs. search needs) (λ c κs. search needs) returns (λ c κs. search needs) returns-2)
+send-spec = tie.close (tie.spec (λ c κs. search needs) returns (λ c κs. search needs) returns-2)

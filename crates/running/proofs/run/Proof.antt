@@ -2,9 +2,9 @@
 use native.Mathlib.Omega.{arith}
 use borrow.Author.Needs.{needs}
 use Rattle.rules.specs.Run.{stepCount}
-use Rattle.engine.proofs.Runs.{run-refused, run-short, run-done, counted}
-use Rattle.engine.proofs.run.Statement.{statement}
-use Rattle.engine.proofs.run.Tie as tie
+use Rattle.running.proofs.Runs.{run-refused, run-short, run-done, read-sound}
+use Rattle.running.proofs.run.Statement.{statement}
+use Rattle.running.proofs.run.Tie as tie
 
 returns : tie.Need-returns
 returns c =
@@ -30,8 +30,8 @@ advance-requires c κs =
     let read = counts .before .before .before in (
       omega (arith, enough .if2 .left, counts .count .ensures),
       (
-        counted _ _ (read .read .ensures) (counts .before .if1 .left),
         record { ends-a = kinds .before .before .far-boxes .ensures; ends-b = kinds .before .far-boxes2 .ensures; kinds-of = kinds .kinds .ensures },
+        read-sound _ _ (read .read .ensures) (counts .before .if1 .left),
       ),
     )
 

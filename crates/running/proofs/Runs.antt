@@ -14,9 +14,10 @@ use Rattle.rules.specs.Line.{startLine, emptyLine, read}
 use Rattle.rules.specs.Steps.{step}
 use Rattle.rules.specs.Record.{checkedStep}
 use Rattle.rules.specs.History.{lineAfter}
-use Rattle.rules.specs.Run.{wholeSteps, stepCount, answersFrom, runCode, run, answered, SafeRun}
-use Rattle.rules.proofs.Files.{file-iff}
-use Rattle.rules.proofs.Runs.{checked-run, checked-answers, safe-run}
+use Rattle.rules.specs.Safety.{Sound}
+use Rattle.rules.specs.Run.{wholeSteps, stepCount, answersFrom, runCode, run, answered}
+use Rattle.running.specs.Loop.{Ran}
+use Rattle.rules.proofs.Runs.{start-sound, checked-run, checked-answers, safe-run}
 
 -- What the reader gives: the start line of an accepted file, and the empty record for a refused one.
 read-accepted : (file : List ℕ) → fileCode file ≡ 0 → read file ≡ record { code = 0; line = startLine (decode file) }
@@ -38,30 +39,28 @@ read-code file =
 accepted-file : (file : List ℕ) (o : Outcome) → o ≡ read file → o .code ≡ 0 → fileCode file ≡ 0
 accepted-file file o is zero = sym (read-code file) ∙ ap (λ (x : Outcome). x .code) (sym is) ∙ zero
 
--- What a run promises, for its outcome and its buffer.
-abbrev Promised : List ℕ → List ℕ → List ℕ → Outcome → List ℕ → Type 0
-Promised file steps buffer r after =
-    (r ≡ run checkedStep file steps buffer)
-    × ((after ≡ answered checkedStep file steps buffer) × (r .code ≡ 0 → SafeRun file steps (r .line) buffer after))
-
 module _ (file steps buffer : List ℕ) where
-  pub run-refused : (o : Outcome) → o ≡ read file → (o .code ≡ 0 → ⊥) → Promised file steps buffer o buffer
+  pub run-refused : (o : Outcome) → o ≡ read file → (o .code ≡ 0 → ⊥) → Ran file steps buffer o buffer
   unfolding run answered runCode first
   run-refused o is n =
       let other : (fileCode file ≡ 0 → ⊥) = λ e. n (ap (λ (x : Outcome). x .code) is ∙ read-code file ∙ e) in
-      let same : o ≡ record { code = fileCode file; line = emptyLine } = is ∙ read-refused file other in (
-        rw (ne-eqb (fileCode file) 0 other, ne-eqb (fileCode file) 0 other) same,
-        (rw (ne-eqb (fileCode file) 0 other, ne-eqb (fileCode file) 0 other) refl, λ e. absurd (n e)),
-      )
+      let same : o ≡ record { code = fileCode file; line = emptyLine } = is ∙ read-refused file other in
+      record {
+        outcome = rw (ne-eqb (fileCode file) 0 other, ne-eqb (fileCode file) 0 other) same;
+        buffer = rw (ne-eqb (fileCode file) 0 other, ne-eqb (fileCode file) 0 other) refl;
+        safe = λ e. absurd (n e);
+      }
 
   pub run-short : (o : Outcome) → o ≡ read file → o .code ≡ 0 → length buffer < stepCount steps → (l : Line) → l ≡ emptyLine
-      → Promised file steps buffer (record { code = 26; line = l }) buffer
+      → Ran file steps buffer (record { code = 26; line = l }) buffer
   unfolding run answered runCode first
   run-short o is zero short l l-is =
-      let code : fileCode file ≡ 0 = accepted-file file o is zero in (
-        rw (code, lt-ltb (length buffer) (stepCount steps) short, l-is) refl,
-        (rw (code, lt-ltb (length buffer) (stepCount steps) short) refl, λ e. absurd (omega arith)),
-      )
+      let code : fileCode file ≡ 0 = accepted-file file o is zero in
+      record {
+        outcome = rw (code, lt-ltb (length buffer) (stepCount steps) short, l-is) refl;
+        buffer = rw (code, lt-ltb (length buffer) (stepCount steps) short) refl;
+        safe = λ e. absurd (omega arith);
+      }
 
   accepted-run : fileCode file ≡ 0 → stepCount steps ≤ length buffer → runCode file steps buffer ≡ 0
   unfolding runCode first
@@ -70,7 +69,7 @@ module _ (file steps buffer : List ℕ) where
   pub run-done : (o : Outcome) → o ≡ read file → o .code ≡ 0 → stepCount steps ≤ length buffer
       → (l : Line) (after : List ℕ) → l ≡ lineAfter step (o .line) (wholeSteps steps)
       → after ≡ answersFrom step (o .line) steps ++ drop (stepCount steps) buffer
-      → Promised file steps buffer (record { code = 0; line = l }) after
+      → Ran file steps buffer (record { code = 0; line = l }) after
   unfolding run answered
   run-done o is zero room l after l-is after-is =
       let code : fileCode file ≡ 0 = accepted-file file o is zero in
@@ -81,7 +80,7 @@ module _ (file steps buffer : List ℕ) where
       let told : after ≡ answered checkedStep file steps buffer =
       rw (checked-answers file steps buffer, taken, after-is, start) refl in
       let line : l ≡ run checkedStep file steps buffer .line = ap (λ (x : Outcome). x .line) left in
-      (left, (told, λ e. rw (line, told) (safe-run file steps buffer taken)))
+      record { outcome = left; buffer = told; safe = λ e. rw (line, told) (safe-run file steps buffer taken) }
 
 -- All steps taken by single calls: the code and the buffer of a run.
 pub run-called : (file steps buffer : List ℕ) (o : Outcome) → o ≡ read file → o .code ≡ 0 → stepCount steps ≤ length buffer
@@ -94,10 +93,9 @@ run-called file steps buffer o is zero room after after-is =
     let taken : runCode file steps buffer ≡ 0 = accepted-run file steps buffer code room in
     (rw taken refl, rw (taken, after-is, start) refl)
 
--- An accepted file has at most 16 trains.
-pub counted : (file : List ℕ) (o : Outcome) → o ≡ read file → o .code ≡ 0 → o .line .table .k ≤ 16
-unfolding startLine
-counted file o is zero =
+-- On the way from the line of an accepted file the record check finds nothing.
+pub read-sound : (file : List ℕ) (o : Outcome) → o ≡ read file → o .code ≡ 0 → Sound (o .line)
+read-sound file o is zero =
     let code : fileCode file ≡ 0 = accepted-file file o is zero in
-    let k : o .line .table .k ≡ decode file .k = ap (λ (x : Outcome). x .line .table .k) (is ∙ read-accepted file code) in
-    rw k (file-iff file .0 code .table .limits .trainsHigh)
+    let start : o .line ≡ startLine (decode file) = ap (λ (x : Outcome). x .line) (is ∙ read-accepted file code) in
+    rw start (start-sound file code)

@@ -1,9 +1,8 @@
 -- By the tests that led to each return.
-use borrow.Author.Needs.{needs}
 use borrow.Author.Tests.{eq-eqb, ne-eqb, lt-ltb, le-ltb}
 use Rattle.rules.specs.Rows.{outside}
-use Rattle.engine.proofs.steps.box_index.Statement.{statement}
-use Rattle.engine.proofs.steps.box_index.Tie as tie
+use Rattle.deciding.proofs.known.Statement.{statement}
+use Rattle.deciding.proofs.known.Tie as tie
 
 returns : tie.Need-returns
 unfolding outside
@@ -17,5 +16,5 @@ returns-3 : tie.Need-returns-3
 unfolding outside
 returns-3 c = rw (ne-eqb _ _ (c .before .if1 .left), le-ltb _ _ (c .if2 .left))
 
-pub box-index-spec : {M : Type 1} → statement M
-box-index-spec = tie.close (tie.spec returns returns-2 (λ c. search needs) (λ c. search needs) returns-3)
+pub known-spec : {M : Type 1} → statement M
+known-spec = tie.close (tie.spec returns returns-2 returns-3)

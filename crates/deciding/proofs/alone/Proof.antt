@@ -1,0 +1,23 @@
+-- Each kind as the definition has it.
+use borrow.Author.Needs.{needs}
+use borrow.Author.Tests.{ne-eqb}
+use Rattle.rules.specs.Steps.{alone}
+use Rattle.deciding.proofs.alone.Statement.{statement}
+use Rattle.deciding.proofs.alone.Tie as tie
+
+returns : tie.Need-returns
+unfolding alone
+returns c = rw (c .before .match .keys1) (c .send .ensures)
+
+returns-2 : tie.Need-returns-2
+unfolding alone
+returns-2 c = rw (c .before .match .keys2) (c .send2 .ensures)
+
+returns-3 : tie.Need-returns-3
+unfolding alone
+returns-3 c =
+    let others = c .before .match .rest in
+    rw (ne-eqb _ 1 (others .0 .1), ne-eqb _ 2 (others .1)) (c .hear .ensures)
+
+pub alone-spec : {M : Type 1} → statement M
+alone-spec = tie.close (tie.spec (λ c κs. search needs) (λ c κs. search needs) (λ c κs. search needs) returns returns-2 returns-3)

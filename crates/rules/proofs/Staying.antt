@@ -1,0 +1,56 @@
+-- Kinds 1 to 4 leave a train where it stands.
+use Prim.Native.Nat.{ℕ}
+use mathlib.Core.Path.{_≡_, refl}
+use mathlib.Core.Bool.{Bool, true, false, cond}
+use lib.Dec.{eqb}
+use Rattle.rules.specs.declared.BoxPlan.{BoxPlan}
+use Rattle.rules.specs.declared.SwitchBox.{SwitchBox}
+use Rattle.rules.specs.declared.Request.{Request}
+use Rattle.rules.specs.declared.Request.the-variants.{Reserve, Lock}
+use Rattle.rules.specs.declared.Message.{Message}
+use Rattle.rules.specs.declared.Message.the-variants.{Idle, Sent, Answered}
+use Rattle.rules.specs.declared.Train.{Train}
+use Rattle.rules.specs.declared.Around.{Around}
+use Rattle.rules.specs.declared.Effect.{Effect}
+use Rattle.rules.specs.declared.Effect.the-variants.{Refused, Changed}
+use Rattle.rules.specs.Rows.{first}
+use Rattle.rules.specs.Steps.{requestRows, unless, send, reply, boxAnswers, trainHears, alone}
+use Rattle.rules.proofs.Settled.{Alike, message-alike, heard-alike}
+
+-- The train after an effect stands as train r does.
+pub data Stays (r : Train) : Effect → Type 0 where
+  refused : {c : ℕ} → Stays r (Refused c)
+  changed : {c : ℕ} {t : Train} {x : SwitchBox} → Alike t r → Stays r (Changed c t x)
+
+module _ (v : Around) (r : Train) (x : SwitchBox) where
+  either : (b : Bool) {d e : Effect} → Stays r d → Stays r e → Stays r (cond b d e)
+  either true h k = h
+  either false h k = k
+
+  send-stays : (q : Request) → Stays r (send v r x q)
+  unfolding send unless
+  send-stays q = either (eqb (first (requestRows v r q)) 0) (changed (message-alike r (Sent q))) refused
+
+  hear-stays : (g : Message) → Stays r (trainHears v r x g)
+  unfolding trainHears
+  hear-stays Idle = refused
+  hear-stays (Sent q) = refused
+  hear-stays (Answered q c) = changed (heard-alike v r q c)
+
+  pub alone-stays : (kind box : ℕ) → Stays r (alone kind box v r x)
+  unfolding alone
+  alone-stays kind box =
+      either (eqb kind 1) (send-stays (Reserve box)) (either (eqb kind 2) (send-stays (Lock box)) (hear-stays (r .message)))
+
+  pub answer-stays : (p : BoxPlan) (g : Message) → Stays r (boxAnswers v r p x g)
+  unfolding boxAnswers reply
+  answer-stays p Idle = refused
+  answer-stays p (Sent q) = changed (message-alike r _)
+  answer-stays p (Answered q c) = refused
+
+-- So does a train that is changed.
+pub stays-alike : {r : Train} {d : Effect} {c : ℕ} {t : Train} {x : SwitchBox} → Stays r d → d ≡ Changed c t x → Alike t r
+stays-alike {r} {d} {c} {t} {x} h e = go (rw e at h)
+  where
+    go : Stays r (Changed c t x) → Alike t r
+    go (changed a) = a

@@ -1,0 +1,69 @@
+-- A step by row Step: 13, 14, or its effect put back.
+use Prim.Native.Nat.{ℕ, _≤_}
+use mathlib.Core.Path.{_≡_, refl, _∙_}
+use mathlib.Core.Logic.{_⊎_, _↔_, Iff·rfl, _≢_}
+use mathlib.Core.Bool.{Bool, true, false, _&&_}
+use borrow.Author.Tests.{eq-eqb, ne-eqb}
+use lib.Dec.{eqb, leb}
+use Rattle.rules.specs.declared.Line.{Line}
+use Rattle.rules.specs.declared.Effect.{Effect}
+use Rattle.rules.specs.declared.Effect.the-variants.{Refused}
+use Rattle.rules.specs.Rows.{first, outside}
+use Rattle.rules.specs.Track.{planAt}
+use Rattle.rules.specs.Line.{around, boxAt, trainAt}
+use Rattle.rules.specs.Steps.{Step, apply, unless, formed, formRows, stepRows, concernedBox, effect, step}
+use Rattle.rules.proofs.Tests.{facts, or-true-iff, first-none, first-zero-iff}
+
+-- The kinds that there are.
+pub formed-iff : (kind box : ℕ) → (formed kind box ≡ true) ↔ (((1 ≤ kind) × (kind ≤ 2)) ⊎ (((3 ≤ kind) × (kind ≤ 6)) × (box ≡ 0)))
+unfolding formed
+formed-iff kind box =
+    let asks : ((leb 1 kind && leb kind 2) ≡ true) ↔ ((1 ≤ kind) × (kind ≤ 2)) = simp facts Iff·rfl in
+    let plain : ((leb 3 kind && leb kind 6 && eqb box 0) ≡ true) ↔ (((3 ≤ kind) × (kind ≤ 6)) × (box ≡ 0)) = simp facts Iff·rfl in
+    or-true-iff _ _ asks plain
+
+-- Row Step stops nothing: there is such a step, and such a train.
+pub form-row-iff : (kind box : ℕ) → (first (formRows kind box) ≡ 0) ↔ (formed kind box ≡ true)
+unfolding formRows
+form-row-iff kind box = simp (facts, first-zero-iff, first-none) (λ (form, none). form, λ form. (form, refl))
+
+pub step-row-iff : (k : ℕ) (s : Step) → (first (stepRows k s) ≡ 0) ↔ ((formed (s .kind) (s .box) ≡ true) × (outside k (s .train) ≡ false))
+unfolding stepRows formRows
+step-row-iff k s =
+    simp (facts, first-zero-iff, first-none) (λ (form, (train, none)). (form, train), λ (form, train). (form, (train, refl)))
+
+-- What a row stops is refused with its code.
+pub unless-stopped : (c : ℕ) (e : Effect) → c ≢ 0 → Refused c ≡ unless c e
+unfolding unless
+unless-stopped c e n = rw (ne-eqb c 0 n)
+
+pub unless-free : (c : ℕ) (e : Effect) → c ≡ 0 → e ≡ unless c e
+unfolding unless
+unless-free c e none = rw (eq-eqb c 0 none)
+
+module _ (l : Line) (s : Step) where
+  -- The box that the step concerns, and what it does there.
+  abbrev pub boxHere : ℕ
+  boxHere = concernedBox (s .kind) (around l (s .train)) (trainAt l (s .train))
+
+  abbrev pub effectHere : Effect
+  effectHere =
+      effect (s .kind) (s .box) (around l (s .train)) (trainAt l (s .train)) (planAt (l .table) boxHere) (boxAt l boxHere)
+
+  -- 13, and 14.
+  pub step-unformed : (c : ℕ) → c ≡ first (formRows (s .kind) (s .box)) → c ≢ 0 → record { code = c; line = l } ≡ step l s
+  unfolding step stepRows formRows first unless apply
+  step-unformed c e some = go (formed (s .kind) (s .box)) refl
+    where
+      go : (b : Bool) → formed (s .kind) (s .box) ≡ b → record { code = c; line = l } ≡ step l s
+      go true form = absurd (some (e ∙ form-row-iff (s .kind) (s .box) .1 form))
+      go false form = rw (e, form) refl
+
+  module _ (form : formed (s .kind) (s .box) ≡ true) where
+    pub step-unknown : outside (l .table .k) (s .train) ≡ true → record { code = 14; line = l } ≡ step l s
+    unfolding step stepRows formRows first unless apply
+    step-unknown e = rw (form, e) refl
+
+    pub step-taken : outside (l .table .k) (s .train) ≡ false → apply l (s .train) boxHere effectHere ≡ step l s
+    unfolding step stepRows formRows first unless
+    step-taken e = rw (form, e) refl

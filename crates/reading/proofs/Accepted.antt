@@ -3,23 +3,23 @@ use Prim.Native.Nat.{ℕ}
 use mathlib.Core.Path.{_≡_, sym}
 use mathlib.Core.List.{List}
 use borrow.Author.Tests.{eq-eqb, ne-eqb}
+use Rattle.rules.specs.declared.Table.{Table}
 use Rattle.rules.specs.declared.Line.{Line}
+use Rattle.rules.specs.File.{fileCode, decode}
 use Rattle.rules.specs.Line.{emptyLine, startLine, read}
-use Rattle.tablefile.specs.declared.FileTable.{FileTable}
-use Rattle.tablefile.specs.Whole.{fileTable}
-use Rattle.tablefile.proofs.Files.{file-code, file-table, file-counts}
+use Rattle.tablefile.specs.Whole.{Whole}
 use Rattle.reading.specs.Start.{Counted}
 
-module _ (bytes : List ℕ) (d : FileTable) (s : d ≡ fileTable bytes) where
-  pub counted : d .code ≡ 0 → Counted (d .table)
-  counted e =
-      let few = file-counts bytes d s e in
-      record { boxes = few .0; trains = few .1 }
+module _ (bytes : List ℕ) where
+  pub counted : (t : Table) → Whole bytes → t ≡ decode bytes → Counted t
+  unfolding decode
+  counted t w e = rw e (record { boxes = w .boxes; trains = w .trains })
 
-  pub read-refused : (l : Line) → (d .code ≡ 0 → ⊥) → l ≡ emptyLine → record { code = d .code; line = l } ≡ read bytes
-  unfolding read
-  read-refused l n e = rw (sym (file-code bytes d s), ne-eqb _ _ n, e)
+  module _ (code : ℕ) (l : Line) (e : code ≡ fileCode bytes) where
+    pub read-refused : (code ≡ 0 → ⊥) → l ≡ emptyLine → record { code = code; line = l } ≡ read bytes
+    unfolding read
+    read-refused n f = rw (sym e, ne-eqb _ _ n, f)
 
-  pub read-accepted : (l : Line) → d .code ≡ 0 → l ≡ startLine (d .table) → record { code = 0; line = l } ≡ read bytes
-  unfolding read
-  read-accepted l z e = rw (sym (file-code bytes d s), eq-eqb _ _ z, e, file-table bytes d s z)
+    pub read-accepted : (t : Table) → code ≡ 0 → t ≡ decode bytes → l ≡ startLine t → record { code = 0; line = l } ≡ read bytes
+    unfolding read
+    read-accepted t z d f = rw (sym e, eq-eqb _ _ z, f, d)

@@ -2,7 +2,10 @@
 pub mod empty;
 mod start;
 
+use layout::network;
+use rules::Line;
 use rules::Outcome;
+use tablefile::head;
 ghost use mathlib.Core.Path.{_≡_};
 ghost use Rattle.rules.specs.Line.{read};
 
@@ -10,17 +13,46 @@ ghost use Rattle.rules.specs.Line.{read};
 pub fn read(bytes: &[u8]) -> Outcome
     ensures { λ r. ⌜ r ≡ read (now (bytes .entry)) ⌝ }
 {
-    let file = tablefile::read_table(bytes);
-    let code = file.code;
+    let early = head::early_code(bytes);
+    if early != 0 {
+        return Outcome {
+            code: early,
+            line: empty::line(),
+        };
+    }
+    let table = head::table(bytes);
+    let segments = table.segments;
+    let plans = table.boxes;
+    let train_plans = table.trains;
+    let a = network::far_boxes(segments, 1);
+    let b = network::far_boxes(segments, 0);
+    let code = layout::parts_code(
+        table.version,
+        table.n,
+        table.m,
+        table.k,
+        plans,
+        train_plans,
+        &table.routes,
+        &a,
+        &b,
+    );
     if code != 0 {
         return Outcome {
             code,
             line: empty::line(),
         };
     }
-    let table = file.table;
+    let boxes = start::boxes(table);
+    let trains = start::trains(table);
+    let routes = table.routes;
     Outcome {
         code: 0,
-        line: start::line(table),
+        line: Line {
+            table,
+            boxes,
+            trains,
+            routes,
+        },
     }
 }

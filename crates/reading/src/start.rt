@@ -1,5 +1,4 @@
 // The line at its start.
-use rules::Line;
 use rules::Message;
 use rules::Segment;
 use rules::SwitchBox;
@@ -10,11 +9,11 @@ ghost use Prim.Native.Nat.{_-_};
 ghost use mathlib.Core.Bool.{cond};
 ghost use Rattle.rules.specs.Rows.{listOf, filled, outside};
 ghost use Rattle.rules.specs.Track.{farOf};
-ghost use Rattle.rules.specs.Line.{noTrain, startTrain, startLine};
+ghost use Rattle.rules.specs.Line.{noTrain, startTrain};
 ghost use Rattle.reading.specs.Start.{boxesAfter, Counted};
 
 // The trains: single on their first segments, nothing recorded, no message.
-fn trains(t: Table) -> [Train; 16]
+pub(crate) fn trains(t: Table) -> [Train; 16]
     requires { ⌜ Counted t ⌝ }
     ensures { λ r. ⌜ r ≡ filled 16 noTrain (listOf (t .k) (startTrain t)) ⌝ }
 {
@@ -98,7 +97,7 @@ fn place(x: u8, count: u8) -> usize
 }
 
 // The boxes, with the first segment of each train reserved at the box ahead of it.
-fn boxes(t: Table) -> [SwitchBox; 96]
+pub(crate) fn boxes(t: Table) -> [SwitchBox; 96]
     requires { ⌜ Counted t ⌝ }
     ensures { λ r. ⌜ r ≡ boxesAfter t (t .k) ⌝ }
 {
@@ -124,20 +123,4 @@ fn boxes(t: Table) -> [SwitchBox; 96]
         }
     }
     all
-}
-
-// The line of a table at its start.
-pub(crate) fn line(t: Table) -> Line
-    requires { ⌜ Counted t ⌝ }
-    ensures { λ r. ⌜ r ≡ startLine t ⌝ }
-{
-    let boxes = boxes(t);
-    let trains = trains(t);
-    let routes = t.routes;
-    Line {
-        table: t,
-        boxes,
-        trains,
-        routes,
-    }
 }

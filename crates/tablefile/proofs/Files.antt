@@ -15,29 +15,37 @@ use Rattle.rules.specs.File.{byteAt, trainCount, trainsFrom, fileCode, decode, 
 use Rattle.rules.specs.Line.{emptyTable}
 use Rattle.rules.proofs.Tests.{or-right, outside-false-iff, first-zero-iff, first-code-iff}
 use Rattle.tablefile.specs.declared.FileTable.{FileTable}
-use Rattle.tablefile.specs.Whole.{earlyCode, Whole, fileTable}
+use Rattle.tablefile.specs.Whole.{earlyCode, Whole, tableIn, fileTable}
 use Rattle.tablefile.proofs.Parts.{route-in, train-room}
 use Rattle.tablefile.proofs.Codes.{file-early, file-late, whole}
 
-module _ (bytes : List ℕ) where
-  -- A file that codes 1 to 5 refuse, and one that they let through.
-  pub file-refused-early : (early : ℕ) (t : Table) →
-      early ≡ earlyCode bytes → (early ≡ 0 → ⊥) → t ≡ emptyTable → record { code = early; table = t } ≡ fileTable bytes
-  unfolding fileTable
-  file-refused-early early t e n z =
-      let f : fileCode bytes ≡ early = sym (e ∙ file-early bytes (λ y. n (e ∙ y))) in
-      rw (sym e, f, ne-eqb early 0 n, z)
+-- A file by the answer to codes 1 to 5.
+module _ (bytes : List ℕ) (early : ℕ) (e : early ≡ earlyCode bytes) where
+  -- They refuse it: their code is the file's, and the table is the empty one.
+  module _ (n : early ≡ 0 → ⊥) where
+    pub code-early : early ≡ fileCode bytes
+    code-early = e ∙ file-early bytes (λ z. n (e ∙ z))
 
-  pub file-by-its-table : (early code : ℕ) (t : Table) →
-      early ≡ earlyCode bytes →
-      early ≡ 0 →
-      t ≡ decode bytes →
-      code ≡ tableCode t →
-      record { code = code; table = t } ≡ fileTable bytes
+    pub table-none : emptyTable ≡ tableIn bytes
+    unfolding tableIn
+    table-none = rw (sym e, ne-eqb early 0 n)
+
+  -- They let it through: it is whole, its table is the file's, and the code of the table is the file's.
+  module _ (z : early ≡ 0) where
+    pub file-whole : Whole bytes
+    file-whole = whole bytes (sym e ∙ z)
+
+    pub table-some : tableIn bytes ≡ decode bytes
+    unfolding tableIn
+    table-some = rw (sym e, eq-eqb early 0 z)
+
+    pub code-late : (code : ℕ) (t : Table) → t ≡ tableIn bytes → code ≡ tableCode t → code ≡ fileCode bytes
+    code-late code t d k = k ∙ ap tableCode (d ∙ table-some) ∙ file-late bytes (sym e ∙ z)
+
+module _ (bytes : List ℕ) where
+  pub file-parts : (code : ℕ) (t : Table) → code ≡ fileCode bytes → t ≡ tableIn bytes → record { code = code; table = t } ≡ fileTable bytes
   unfolding fileTable
-  file-by-its-table early code t e n z k =
-      let f : fileCode bytes ≡ code = sym (rw z at k ∙ file-late bytes (sym e ∙ n)) in
-      rw (sym e, f, eq-eqb early 0 n, z)
+  file-parts code t e f = rw (e, f)
 
   -- An accepted file: codes 1 to 5 let it through, and its table is the file's.
   accepted-early : fileCode bytes ≡ 0 → earlyCode bytes ≡ 0
@@ -54,14 +62,7 @@ module _ (bytes : List ℕ) where
 
     pub file-table : d .code ≡ 0 → d .table ≡ decode bytes
     unfolding fileTable
-    file-table e = ap (λ (x : FileTable). x .table) s ∙ rw (eq-eqb _ _ (accepted-early (sym file-code ∙ e)))
-
-    -- The counts of boxes and trains are within the arrays.
-    pub file-counts : d .code ≡ 0 → (d .table .m ≤ 96) × (d .table .k ≤ 16)
-    unfolding decode
-    file-counts e =
-        let w = whole bytes (accepted-early (sym file-code ∙ e)) in
-        rw (file-table e) (w .boxes, w .trains)
+    file-table e = ap (λ (x : FileTable). x .table) s ∙ table-some bytes _ refl (accepted-early (sym file-code ∙ e))
 
     -- The code of train i's route.
     module _ (i : ℕ) where

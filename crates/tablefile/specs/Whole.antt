@@ -5,6 +5,7 @@ use mathlib.Core.List.{List}
 use mathlib.Core.Path.{_≡_}
 use lib.Dec.{eqb}
 use lib.ListN.{length}
+use Rattle.rules.specs.declared.Table.{Table}
 use Rattle.rules.specs.declared.Segment.{Segment}
 use Rattle.rules.specs.declared.BoxPlan.{BoxPlan}
 use Rattle.rules.specs.declared.TrainPlan.{TrainPlan}
@@ -42,6 +43,9 @@ routesUpTo bytes j = filled 1024 0 (joinOf j (λ i. filled 64 0 (routeIn bytes i
 unfoldable pub routesOf : List ℕ → List ℕ
 routesOf bytes = routesUpTo bytes (trainCount bytes)
 
--- The file's code, and its table where codes 1 to 5 let it through.
+-- The table record of a file that codes 1 to 5 let through, else the empty one; and the file's code beside it.
+unfoldable pub tableIn : List ℕ → Table
+tableIn bytes = cond (eqb (earlyCode bytes) 0) (decode bytes) emptyTable
+
 unfoldable pub fileTable : List ℕ → FileTable
-fileTable bytes = record { code = fileCode bytes; table = cond (eqb (earlyCode bytes) 0) (decode bytes) emptyTable }
+fileTable bytes = record { code = fileCode bytes; table = tableIn bytes }

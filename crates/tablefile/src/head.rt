@@ -1,11 +1,11 @@
-// The head of a table file, its table where codes 1 to 5 let it through, and those codes.
+// The head of a table file: codes 1 to 5, and the table of a file that they let through.
 use crate::reader;
 use rules::Table;
 ghost use mathlib.Core.Path.{_≡_};
 ghost use Prim.Native.Nat.{_≤_};
 ghost use lib.ListN.{length};
-ghost use Rattle.rules.specs.File.{marked, versionIn, decode};
-ghost use Rattle.tablefile.specs.Whole.{earlyCode, Whole};
+ghost use Rattle.rules.specs.File.{marked, versionIn};
+ghost use Rattle.tablefile.specs.Whole.{earlyCode, tableIn};
 
 // The file's mark stands at its beginning.
 fn marked(bytes: &[u8]) -> bool
@@ -30,7 +30,7 @@ fn version(bytes: &[u8]) -> u16
 }
 
 // The first of codes 1 to 5 that applies, or 0.
-pub(crate) fn early_code(bytes: &[u8]) -> u8
+pub fn early_code(bytes: &[u8]) -> u8
     ensures { λ r. ⌜ r ≡ earlyCode (now (bytes .entry)) ⌝ }
 {
     if bytes.len() < 8 {
@@ -53,11 +53,13 @@ pub(crate) fn early_code(bytes: &[u8]) -> u8
     0
 }
 
-// The table record of a whole file.
-pub(crate) fn table(bytes: &[u8]) -> Table
-    requires { ⌜ Whole (now bytes) ⌝ }
-    ensures { λ r. ⌜ r ≡ decode (now (bytes .entry)) ⌝ }
+// The table record of a file that codes 1 to 5 let through, else the empty one.
+pub fn table(bytes: &[u8]) -> Table
+    ensures { λ r. ⌜ r ≡ tableIn (now (bytes .entry)) ⌝ }
 {
+    if early_code(bytes) != 0 {
+        return crate::empty_table();
+    }
     let version = version(bytes);
     let n = bytes[5];
     let m = bytes[6];

@@ -1,5 +1,5 @@
 // A table file: its code, 1 to 12 or 0, its table record, and the routes of its trains as parts of it.
-mod head;
+pub mod head;
 mod reader;
 mod records;
 
@@ -48,13 +48,10 @@ pub fn read_table(bytes: &[u8]) -> FileTable
     ensures { λ r. ⌜ r ≡ fileTable (now (bytes .entry)) ⌝ }
 {
     let early = head::early_code(bytes);
-    if early != 0 {
-        return FileTable {
-            code: early,
-            table: empty_table(),
-        };
-    }
     let table = head::table(bytes);
+    if early != 0 {
+        return FileTable { code: early, table };
+    }
     let code = layout::table_code(table);
     FileTable { code, table }
 }

@@ -1,17 +1,75 @@
--- By the code of the file.
+-- By codes 1 to 5, then by the code of the table's parts; the line at its start is made of the same table.
+use mathlib.Core.Path.{_≡_, _∙_}
+use mathlib.Core.List.{List}
+use Prim.Native.Nat.{ℕ}
 use borrow.Author.Needs.{needs}
+use lib.ListN.{length}
+use Rattle.rules.specs.File.{fileCode, decode}
+use Rattle.rules.proofs.Rows.{length-mapped}
+use Rattle.layout.proofs.Tracks.{track-made, parts-answer}
+use Rattle.tablefile.proofs.Files.{code-early, file-whole, table-some, code-late}
+use Rattle.reading.specs.Start.{Counted}
+use Rattle.reading.proofs.Begin.{start-line}
 use Rattle.reading.proofs.Accepted.{counted, read-refused, read-accepted}
 use Rattle.reading.proofs.read.Statement.{statement}
 use Rattle.reading.proofs.read.Tie as tie
 
 returns : tie.Need-returns
-returns c = read-refused _ _ (c .before .before .read-table .ensures) _ (c .before .if1 .taken) (c .line .ensures)
+returns c =
+    let n = c .before .if1 .taken in
+    read-refused _ _ _ (code-early _ _ (c .before .before .early-code .ensures) n) n (c .line .ensures)
 
-line-requires-2 : tie.Need-line-requires-2
-line-requires-2 c κs = counted _ _ (c .before .before .read-table .ensures) (c .before .if1 .left)
+-- The table is the file's; its counts are within its arrays.
+module _ (c : tie.After-table) where
+  abbrev file : List ℕ
+  file = c .before .before .before .before .args .bytes .now
+
+  table-is : c .table .result ≡ decode file
+  table-is = c .table .ensures ∙ table-some _ _ (c .before .before .early-code .ensures) (c .before .if1 .left)
+
+  table-counted : Counted (c .table .result)
+  table-counted = counted _ _ (file-whole _ _ (c .before .before .early-code .ensures) (c .before .if1 .left)) table-is
+
+  table-sized : length (c .table .result .segments) ≡ 96
+  table-sized = search (needs, length-mapped)
+
+-- The place behind the code of the parts, and the place behind the table.
+module _ (c : tie.After-parts-code) where
+  abbrev columns : tie.After-far-boxes2
+  columns = c .before .before .before .before .before
+
+  abbrev tabled : tie.After-table
+  tabled = c .before .before .before .before .before .before .before .before .before .before
+
+  -- The columns are the table's track, so that the code of the parts is the file's.
+  code-is : c .parts-code .result ≡ fileCode (file tabled)
+  code-is =
+      let made = track-made _ (table-sized tabled) (columns .before .far-boxes .ensures) (columns .far-boxes2 .ensures) in
+      code-late _ _ (tabled .before .before .early-code .ensures) (tabled .before .if1 .left) _ _ (tabled .table .ensures)
+      (parts-answer _ _ made (c .parts-code .ensures))
 
 returns-2 : tie.Need-returns-2
-returns-2 c = read-accepted _ _ (c .before .before .before .read-table .ensures) _ (c .before .before .if1 .left) (c .line2 .ensures)
+returns-2 c = read-refused _ _ _ (code-is (c .before .before)) (c .before .if2 .taken) (c .line2 .ensures)
+
+returns-3 : tie.Need-returns-3
+returns-3 c =
+    let code = c .before .before .before .before in
+    read-accepted _ _ _ (code-is code) _ (c .before .before .before .if2 .left) (table-is (tabled code))
+    (start-line _ _ _ (c .before .before .boxes .ensures) (c .before .trains .ensures))
 
 pub read-spec : {M : Type 1} → statement M
-read-spec = tie.close (tie.spec (λ c κs. search needs) (λ c κs. search needs) returns line-requires-2 returns-2)
+read-spec =
+    tie.close
+    (tie.spec
+    (λ c κs. search needs)
+    (λ c κs. search needs)
+    returns
+    (λ c κs. search needs)
+    (λ c κs. search needs)
+    (λ c κs. search needs)
+    (λ c κs. search needs)
+    (λ c κs. search needs)
+    returns-2
+    (λ c κs. table-counted (tabled (c .before)))
+    (λ c κs. table-counted (tabled (c .before .before)))
+    returns-3)

@@ -10,7 +10,7 @@ ghost use Rattle.rules.specs.Network.{endsFault, placeFault, branchesFault, pla
 ghost use Rattle.layout.specs.Column.{column};
 
 // x is 0 or above n.
-pub(crate) fn outside(n: u8, x: u8) -> bool
+pub fn outside(n: u8, x: u8) -> bool
     ensures { λ r. ⌜ r ≡ outside n x ⌝ }
 {
     if x == 0 {

@@ -43,8 +43,8 @@ pub fn read(bytes: &[u8]) -> Outcome
             line: empty::line(),
         };
     }
-    let boxes = start::boxes(table);
-    let trains = start::trains(table);
+    let boxes = start::boxes(table.m, table.k, plans, train_plans, &table.routes, &a, &b);
+    let trains = start::trains(table.k, train_plans);
     let routes = table.routes;
     Outcome {
         code: 0,

@@ -1,23 +1,25 @@
-// The line at its start.
+// The boxes and the trains of the line at its start, by the parts of a table and by the boxes at the A ends and at the B ends of its
+// segments.
+use layout::network;
+use rules::BoxPlan;
 use rules::Message;
-use rules::Segment;
 use rules::SwitchBox;
-use rules::Table;
 use rules::Train;
+use rules::TrainPlan;
+use traincomputer::sight;
 ghost use mathlib.Core.Path.{_≡_};
-ghost use Prim.Native.Nat.{_-_};
-ghost use mathlib.Core.Bool.{cond};
-ghost use Rattle.rules.specs.Rows.{listOf, filled, outside};
-ghost use Rattle.rules.specs.Track.{farOf};
-ghost use Rattle.rules.specs.Line.{noTrain, startTrain};
-ghost use Rattle.reading.specs.Start.{boxesAfter, Counted};
+ghost use Prim.Native.Nat.{_≤_};
+ghost use Rattle.rules.specs.Rows.{listOf, filled};
+ghost use Rattle.rules.specs.Track.{trackIn};
+ghost use Rattle.rules.specs.Line.{noBox, noTrain, startTrain};
+ghost use Rattle.reading.specs.Start.{freeBoxAt, boxesAfter};
 
 // The trains: single on their first segments, nothing recorded, no message.
-pub(crate) fn trains(t: Table) -> [Train; 16]
-    requires { ⌜ Counted t ⌝ }
-    ensures { λ r. ⌜ r ≡ filled 16 noTrain (listOf (t .k) (startTrain t)) ⌝ }
+pub(crate) fn trains(k: u8, plans: [TrainPlan; 16]) -> [Train; 16]
+    requires { ⌜ k ≤ 16 ⌝ }
+    ensures { λ r. ⌜ r ≡ filled 16 noTrain (listOf k (startTrain plans)) ⌝ }
 {
-    let k = t.k as usize;
+    let last = k as usize;
     let mut all = [Train {
         direction: 0,
         length: 0,
@@ -29,8 +31,8 @@ pub(crate) fn trains(t: Table) -> [Train; 16]
         message: Message::Idle,
     }; 16];
     let mut i: usize = 0;
-    while i < k {
-        let plan = t.trains[i];
+    while i < last {
+        let plan = plans[i];
         all[i] = Train {
             direction: plan.direction,
             length: plan.length,
@@ -47,11 +49,11 @@ pub(crate) fn trains(t: Table) -> [Train; 16]
 }
 
 // The boxes with their positions, all else free and passive.
-fn free_boxes(t: Table) -> [SwitchBox; 96]
-    requires { ⌜ Counted t ⌝ }
-    ensures { λ r. ⌜ r ≡ boxesAfter t 0 ⌝ }
+fn free_boxes(m: u8, plans: [BoxPlan; 96]) -> [SwitchBox; 96]
+    requires { ⌜ m ≤ 96 ⌝ }
+    ensures { λ r. ⌜ r ≡ filled 96 noBox (listOf m (freeBoxAt plans)) ⌝ }
 {
-    let m = t.m as usize;
+    let last = m as usize;
     let mut all = [SwitchBox {
         sensor: false,
         position: 0,
@@ -61,8 +63,8 @@ fn free_boxes(t: Table) -> [SwitchBox; 96]
         right: 0,
     }; 96];
     let mut i: usize = 0;
-    while i < m {
-        let plan = t.boxes[i];
+    while i < last {
+        let plan = plans[i];
         all[i] = SwitchBox {
             sensor: false,
             position: plan.position,
@@ -76,50 +78,32 @@ fn free_boxes(t: Table) -> [SwitchBox; 96]
     all
 }
 
-// The box at the far end of a segment.
-fn far(ends: Segment, direction: u8) -> u8
-    ensures { λ r. ⌜ r ≡ farOf direction (ends .a) (ends .b) ⌝ }
-{
-    if direction == 0 { ends.b } else { ends.a }
-}
-
-// The place of record x in an array of which `count` records are used, or 96 where there is none.
-fn place(x: u8, count: u8) -> usize
-    ensures { λ r. ⌜ r ≡ cond (outside count x) 96 (x - 1) ⌝ }
-{
-    if x == 0 {
-        return 96;
-    }
-    if x > count {
-        return 96;
-    }
-    (x - 1) as usize
-}
-
 // The boxes, with the first segment of each train reserved at the box ahead of it.
-pub(crate) fn boxes(t: Table) -> [SwitchBox; 96]
-    requires { ⌜ Counted t ⌝ }
-    ensures { λ r. ⌜ r ≡ boxesAfter t (t .k) ⌝ }
+pub(crate) fn boxes(
+    m: u8,
+    k: u8,
+    plans: [BoxPlan; 96],
+    trains: [TrainPlan; 16],
+    routes: &[u8; 1024],
+    a: &[u8; 256],
+    b: &[u8; 256],
+) -> [SwitchBox; 96]
+    requires { ⌜ m ≤ 96 ⌝ }
+    requires { ⌜ k ≤ 16 ⌝ }
+    ensures { λ r. ⌜ r ≡ boxesAfter m (trackIn (now (a .entry)) (now (b .entry))) plans trains (now (routes .entry)) k ⌝ }
 {
-    let m = t.m;
-    let k = t.k;
-    let mut all = free_boxes(t);
-    let mut i: u8 = 0;
-    while i < k {
-        let at = i as usize;
-        let s = t.routes[64 * at];
-        let plan = t.trains[at];
-        let p = place(s, 96);
-        let mut ahead: u8 = 0;
-        if p < 96 {
-            let ends = t.segments[p];
-            ahead = far(ends, plan.direction);
-        }
-        i += 1;
-        let b = place(ahead, m);
-        if b < 96 {
-            let x = switchbox::set_holder(t.boxes[b], all[b], s, i);
-            all[b] = x;
+    let mut all = free_boxes(m, plans);
+    let mut number: u8 = 0;
+    while number < k {
+        let i = number as usize;
+        number += 1;
+        let plan = trains[i];
+        let first = sight::segment_at(routes, number, 1);
+        let ahead = sight::far(plan.direction, first, a, b);
+        if !network::outside(m, ahead) {
+            let at = (ahead - 1) as usize;
+            let x = switchbox::set_holder(plans[at], all[at], first, number);
+            all[at] = x;
         }
     }
     all

@@ -9,7 +9,7 @@ use Rattle.rules.specs.declared.Table.{Table}
 use Rattle.rules.specs.declared.SwitchBox.{SwitchBox}
 use Rattle.rules.specs.declared.Train.{Train}
 use Rattle.rules.specs.declared.Line.{Line}
-use Rattle.rules.specs.Track.{planAt, routeAt, isPoint, joins}
+use Rattle.rules.specs.Track.{planAt, trainPlanAt, routeAt, isPoint, joins}
 use Rattle.rules.specs.Line.{startTrain, startLine, boxAt, trainAt}
 use Rattle.rules.specs.Steps.{Step, step}
 use Rattle.rules.specs.History.{Call, _answered_, Place, startPlace, lineAfter, events, movedBy, placeAfter}
@@ -116,7 +116,7 @@ module _ {t : Table} (a : Accepted t) where
       (record { request = λ i k q e. absurd (not-idle (sym (start-message t a i) ∙ e)) })
 
   start-fixed : Fixed t (startLine t)
-  unfolding startLine startTrain
+  unfolding startLine startTrain trainPlanAt
   start-fixed =
       record {
         table = refl;

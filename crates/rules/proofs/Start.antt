@@ -1,15 +1,16 @@
 -- The invariant holds on the start line of every accepted table.
 use Prim.Native.Nat.{ℕ, zero, suc, _≤_}
 use mathlib.Core.Path.{_≡_, refl, _∙_}
-use mathlib.Core.Bool.{true, false, false≢true}
+use mathlib.Core.Bool.{Bool, true, false, false≢true}
 use mathlib.Core.List.{List}
 use native.Mathlib.Decide.{ℕ-discrete}
 use native.Mathlib.Omega.{arith}
+use Rattle.rules.specs.declared.TrainPlan.{TrainPlan}
 use Rattle.rules.specs.declared.Table.{Table}
 use Rattle.rules.specs.declared.SwitchBox.{SwitchBox}
 use Rattle.rules.specs.declared.Message.the-variants.{Idle}
 use Rattle.rules.specs.declared.Train.{Train}
-use Rattle.rules.specs.Track.{planAt, trainPlanAt, farBox, trackOf}
+use Rattle.rules.specs.Track.{planAt, trainPlanAt, Track, trackOf, farBox}
 use Rattle.rules.specs.Network.{lists}
 use Rattle.rules.specs.Line.{noBox, noTrain, boxAt, trainAt, holderOf, startTrain, startsOn, startHolder, startBoxWith, startBox, startLine}
 use Rattle.rules.specs.Record.{messageFault, recordFault}
@@ -27,31 +28,38 @@ use Rattle.rules.proofs.Settled.{settled-line}
 
 -- The train that a segment is reserved for at the start: one of the trains looked at, or nobody; and the only one of them that
 -- starts there.
-start-holder-low : (t : Table) (b s j : ℕ) → startHolder t b s j ≤ j
-unfolding startHolder
-start-holder-low t b s zero = omega arith
-start-holder-low t b s (suc j) =
-    cond-each (λ n. n ≤ suc j) (startsOn t b s (suc j)) (suc j) (startHolder t b s j) (λ _. omega arith)
-    (λ _. omega (arith, start-holder-low t b s j))
+module _ (track : Track) (trains : List TrainPlan) (routes : List ℕ) (b s : ℕ) where
+  abbrev starts : ℕ → Bool
+  starts = startsOn track trains routes b s
 
-start-holder
-    : (t : Table) (b s i j : ℕ) → startsOn t b s i ≡ true → 1 ≤ i → i ≤ j
-    → ((p : ℕ) → 1 ≤ p → p ≤ j → startsOn t b s p ≡ true → p ≡ i) → startHolder t b s j ≡ i
-unfolding startHolder
-start-holder t b s i zero e low high only = absurd (omega arith)
-start-holder t b s i (suc j) e low high only =
-    elim (ℕ-discrete (suc j) i) [
-      | yes f ↦ rw (f, e)
-      | no n ↦ rw (not-passed (startsOn t b s (suc j)) (λ h. n (only (suc j) (omega arith) (omega arith) h)))
-          (start-holder t b s i j e low (omega arith) (λ p l h. only p l (omega arith)))
-    ]
+  abbrev holder : ℕ → ℕ
+  holder = startHolder track trains routes b s
+
+  start-holder-low : (j : ℕ) → holder j ≤ j
+  unfolding startHolder
+  start-holder-low zero = omega arith
+  start-holder-low (suc j) =
+      cond-each (λ n. n ≤ suc j) (starts (suc j)) (suc j) (holder j) (λ _. omega arith) (λ _. omega (arith, start-holder-low j))
+
+  start-holder
+      : (i j : ℕ) → starts i ≡ true → 1 ≤ i → i ≤ j → ((p : ℕ) → 1 ≤ p → p ≤ j → starts p ≡ true → p ≡ i) → holder j ≡ i
+  unfolding startHolder
+  start-holder i zero e low high only = absurd (omega arith)
+  start-holder i (suc j) e low high only =
+      elim (ℕ-discrete (suc j) i) [
+        | yes f ↦ rw (f, e)
+        | no n ↦ rw (not-passed (starts (suc j)) (λ h. n (only (suc j) (omega arith) (omega arith) h)))
+            (start-holder i j e low (omega arith) (λ p l h. only p l (omega arith)))
+      ]
 
 -- It is what the box reads for a segment that it lists.
 start-reads
-    : (t : Table) (b s : ℕ) → lists (planAt t b) s ≡ true → holderOf (planAt t b) (startBox t b) s ≡ startHolder t b s (t .k)
-unfolding startBox startBoxWith
+    : (t : Table) (b s : ℕ) → lists (planAt t b) s ≡ true
+    → holderOf (planAt t b) (startBox t b) s ≡ holder (trackOf t) (t .trains) (t .routes) b s (t .k)
+unfolding startBox startBoxWith planAt
 start-reads t b s h =
-    holder-read (planAt t b) (startBox t b) s (λ z. z ≡ startHolder t b s (t .k)) h (λ e. rw e) (λ e. rw e) (λ e. rw e)
+    holder-read (planAt t b) (startBox t b) s (λ z. z ≡ holder (trackOf t) (t .trains) (t .routes) b s (t .k)) h (λ e. rw e)
+    (λ e. rw e) (λ e. rw e)
 
 -- A train at the start covers its first place only, so it crosses no box; and it needs no lock.
 start-covers : {q : ℕ} → Covers startPlace q → q ≡ 1
@@ -60,16 +68,16 @@ start-covers c = omega arith
 start-crosses : {t : Table} {routes : List ℕ} {i d q b : ℕ} → Crosses t routes i d startPlace q b → ⊥
 start-crosses c = omega arith
 
-start-needs-no-lock : {t : Table} {i b : ℕ} → NeedsLock t (t .routes) i (startTrain t i) b → ⊥
+start-needs-no-lock : {t : Table} {i b : ℕ} → NeedsLock t (t .routes) i (startTrain (t .trains) i) b → ⊥
 unfolding startTrain
 start-needs-no-lock (crossedPoint c e) = start-crosses c
 start-needs-no-lock (lockRecorded e) = false≢true e
 
 module _ (t : Table) (a : Accepted t) where
   -- The trains and boxes of the start line.
-  pub start-train : (i : ℕ) → TrainOf t i → trainAt (startLine t) i ≡ startTrain t i
+  pub start-train : (i : ℕ) → TrainOf t i → trainAt (startLine t) i ≡ startTrain (t .trains) i
   unfolding startLine trainAt
-  start-train i h = filled-record (startTrain t) noTrain 16 (t .k) i (a .limits .trainsHigh) (h .low) (h .high)
+  start-train i h = filled-record (startTrain (t .trains)) noTrain 16 (t .k) i (a .limits .trainsHigh) (h .low) (h .high)
 
   start-box : (b : ℕ) → BoxOf (t .m) b → boxAt (startLine t) b ≡ startBox t b
   unfolding startLine boxAt
@@ -77,10 +85,10 @@ module _ (t : Table) (a : Accepted t) where
 
   -- What holds of each of them, and where there is none, holds of every number.
   each-start-train
-      : (P : Train → Type 0) → ((i : ℕ) → TrainOf t i → P (startTrain t i)) → P noTrain → (i : ℕ) → P (trainAt (startLine t) i)
+      : (P : Train → Type 0) → ((i : ℕ) → TrainOf t i → P (startTrain (t .trains) i)) → P noTrain → (i : ℕ) → P (trainAt (startLine t) i)
   unfolding startLine trainAt
   each-start-train P these none =
-      filled-each (startTrain t) noTrain 16 (t .k) P (a .limits .trainsHigh)
+      filled-each (startTrain (t .trains)) noTrain 16 (t .k) P (a .limits .trainsHigh)
       (λ i l h. these i (record { low = l; high = h })) none
 
   each-start-box
@@ -111,7 +119,7 @@ module _ (t : Table) (a : Accepted t) where
       → let s = onRoute t i 1 in
       let b = farBox (trackOf t) (trainPlanAt t i .direction) s in
       holderOf (planAt t b) (boxAt (startLine t) b) s ≡ i
-  unfolding startsOn
+  unfolding startsOn trainPlanAt
   start-reserved i h =
       let route = a .routes i h in
       let d = trainPlanAt t i .direction in
@@ -120,14 +128,14 @@ module _ (t : Table) (a : Accepted t) where
       let segment = route .segment 1 (omega arith) (route .low) in
       rw (start-box b (far-box a d s segment))
       (start-reads t b s (far-listed a d s segment)
-      ∙ start-holder t b s i (t .k) (simp facts (refl, refl)) (h .low) (h .high)
+      ∙ start-holder (trackOf t) (t .trains) (t .routes) b s i (t .k) (simp facts (refl, refl)) (h .low) (h .high)
       (λ p low high e. a .starts p i (record { low = low; high = high }) h ((simp facts at e) .0)))
 
   -- So what a train needs at the start is reserved for it.
   start-needs
-      : (i : ℕ) → TrainOf t i → {b s : ℕ} → Needs t (t .routes) i (startTrain t i) b s
+      : (i : ℕ) → TrainOf t i → {b s : ℕ} → Needs t (t .routes) i (startTrain (t .trains) i) b s
       → holderOf (planAt t b) (boxAt (startLine t) b) s ≡ i
-  unfolding startTrain
+  unfolding startTrain trainPlanAt
   start-needs i h (ahead c) = rw (start-covers c) (start-reserved i h)
   start-needs i h (crossed c) = absurd (start-crosses c)
   start-needs i h (nearRecorded e) = absurd (false≢true e)
@@ -135,7 +143,7 @@ module _ (t : Table) (a : Accepted t) where
 
   -- The record check finds nothing, and trains and boxes fit together: so the invariant holds.
   start-sound : recordFault (startLine t) ≡ false
-  unfolding startLine startTrain startBox startBoxWith messageFault
+  unfolding startLine startTrain startBox startBoxWith messageFault planAt trainPlanAt
   start-sound =
       sound-iff (startLine t) .1 (
       record {
@@ -150,9 +158,9 @@ module _ (t : Table) (a : Accepted t) where
             record {
               position = a .plans b h .position;
               lock = omega arith;
-              stem = start-holder-low t b _ (t .k);
-              left = start-holder-low t b _ (t .k);
-              right = start-holder-low t b _ (t .k);
+              stem = start-holder-low _ _ _ b _ (t .k);
+              left = start-holder-low _ _ _ b _ (t .k);
+              right = start-holder-low _ _ _ b _ (t .k);
             });
       })
 

@@ -5,6 +5,7 @@ use mathlib.Core.List.{List}
 use lib.Dec.{eqb}
 use lib.ListN.{replicate}
 use Rattle.rules.specs.declared.BoxPlan.{BoxPlan}
+use Rattle.rules.specs.declared.TrainPlan.{TrainPlan}
 use Rattle.rules.specs.declared.Table.{Table}
 use Rattle.rules.specs.declared.SwitchBox.{SwitchBox}
 use Rattle.rules.specs.declared.Request.{Request}
@@ -16,7 +17,7 @@ use Rattle.rules.specs.declared.Line.{Line}
 use Rattle.rules.specs.declared.Around.{Around}
 use Rattle.rules.specs.declared.Outcome.{Outcome}
 use Rattle.rules.specs.Rows.{nth, setNth, listOf, filled}
-use Rattle.rules.specs.Track.{noSegment, noBoxPlan, noTrainPlan, planAt, trainPlanAt, routeAt, Track, trackOf, pointAt, farBox, nearBox}
+use Rattle.rules.specs.Track.{noSegment, noBoxPlan, noTrainPlan, routeAt, Track, trackOf, pointAt, farBox, nearBox}
 use Rattle.rules.specs.File.{fileCode, decode}
 
 -- 01's numbers for a request: the kind of step that makes it, and its box.
@@ -99,12 +100,13 @@ setHolder p x s i =
       right = cond (eqb s (p .right)) i (x .right);
     }
 
--- The start of train i: single on its first segment, nothing recorded, no message.
-unfoldable pub startTrain : Table → ℕ → Train
-startTrain t i =
+-- The start of train i, by the plans of trains: single on its first segment, nothing recorded, no message.
+unfoldable pub startTrain : List TrainPlan → ℕ → Train
+startTrain trains i =
+    let p = nth trains i noTrainPlan in
     record {
-      direction = trainPlanAt t i .direction;
-      length = trainPlanAt t i .length;
+      direction = p .direction;
+      length = p .length;
       place = 1;
       covered = 1;
       near = false;
@@ -113,38 +115,41 @@ startTrain t i =
       message = Idle;
     }
 
--- Train i starts on segment s with box b ahead of it.
-unfoldable pub startsOn : Table → ℕ → ℕ → ℕ → Bool
-startsOn t b s i = eqb (routeAt (t .routes) i 1) s && eqb (farBox (trackOf t) (trainPlanAt t i .direction) s) b
+-- The boxes at the start, over a track, the plans of trains and their routes.
+module _ (track : Track) (trains : List TrainPlan) (routes : List ℕ) where
+  -- Train i starts on segment s with box b ahead of it.
+  unfoldable pub startsOn : ℕ → ℕ → ℕ → Bool
+  startsOn b s i = eqb (routeAt routes i 1) s && eqb (farBox track (nth trains i noTrainPlan .direction) s) b
 
--- The train among 1 .. j that segment s is reserved for at box b at the start, 0 where there is none.
-unfoldable pub startHolder : Table → ℕ → ℕ → ℕ → ℕ
-startHolder t b s zero = 0
-startHolder t b s (suc j) = cond (startsOn t b s (suc j)) (suc j) (startHolder t b s j)
+  -- The train among 1 .. j that segment s is reserved for at box b at the start, 0 where there is none.
+  unfoldable pub startHolder : ℕ → ℕ → ℕ → ℕ
+  startHolder b s zero = 0
+  startHolder b s (suc j) = cond (startsOn b s (suc j)) (suc j) (startHolder b s j)
 
--- The start of box b on a line with the trains 1 .. j: sensor passive, position as in the table, no lock, the first segments
--- reserved at the boxes ahead. The line has all trains of its table.
-unfoldable pub startBoxWith : Table → ℕ → ℕ → SwitchBox
-startBoxWith t j b =
-    let p = planAt t b in
-    record {
-      sensor = false;
-      position = p .position;
-      lock = 0;
-      stem = startHolder t b (p .stem) j;
-      left = startHolder t b (p .left) j;
-      right = startHolder t b (p .right) j;
-    }
+  -- The start of box b on a line with the trains 1 .. j: sensor passive, position as in its plan, no lock, the first segments
+  -- reserved at the boxes ahead.
+  unfoldable pub startBoxWith : List BoxPlan → ℕ → ℕ → SwitchBox
+  startBoxWith plans j b =
+      let p = nth plans b noBoxPlan in
+      record {
+        sensor = false;
+        position = p .position;
+        lock = 0;
+        stem = startHolder b (p .stem) j;
+        left = startHolder b (p .left) j;
+        right = startHolder b (p .right) j;
+      }
 
+-- The line at its start has all trains of its table.
 unfoldable pub startBox : Table → ℕ → SwitchBox
-startBox t b = startBoxWith t (t .k) b
+startBox t b = startBoxWith (trackOf t) (t .trains) (t .routes) (t .boxes) (t .k) b
 
 unfoldable pub startLine : Table → Line
 startLine t =
     record {
       table = t;
       boxes = filled 96 noBox (listOf (t .m) (startBox t));
-      trains = filled 16 noTrain (listOf (t .k) (startTrain t));
+      trains = filled 16 noTrain (listOf (t .k) (startTrain (t .trains)));
       routes = t .routes;
     }
 

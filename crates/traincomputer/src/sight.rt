@@ -45,7 +45,7 @@ pub fn segment_at(routes: &[u8; 1024], number: u8, p: usize) -> u8
 }
 
 // The box at the far end of segment s in direction d.
-fn far(d: u8, s: u8, a: &[u8; 256], b: &[u8; 256]) -> u8
+pub fn far(d: u8, s: u8, a: &[u8; 256], b: &[u8; 256]) -> u8
     ensures { λ r. ⌜ r ≡ farBox (trackIn (now (a .entry)) (now (b .entry))) d s ⌝ }
 {
     if d == 0 { b[s as usize] } else { a[s as usize] }

@@ -1,14 +1,14 @@
--- By codes 1 to 5, then by the code of the table's parts; the line at its start is made of the same table.
+-- By codes 1 to 5, then by the code of the table's parts; the line at its start is made of the same parts.
+use Prim.Native.Nat.{ℕ, _≤_}
 use mathlib.Core.Path.{_≡_, _∙_}
 use mathlib.Core.List.{List}
-use Prim.Native.Nat.{ℕ}
 use borrow.Author.Needs.{needs}
 use lib.ListN.{length}
+use Rattle.rules.specs.Track.{trackOf, trackIn}
 use Rattle.rules.specs.File.{fileCode, decode}
 use Rattle.rules.proofs.Rows.{length-mapped}
 use Rattle.layout.proofs.Tracks.{track-made, parts-answer}
 use Rattle.tablefile.proofs.Files.{code-early, file-whole, table-some, code-late}
-use Rattle.reading.specs.Start.{Counted}
 use Rattle.reading.proofs.Begin.{start-line}
 use Rattle.reading.proofs.Accepted.{counted, read-refused, read-accepted}
 use Rattle.reading.proofs.read.Statement.{statement}
@@ -27,35 +27,41 @@ module _ (c : tie.After-table) where
   table-is : c .table .result ≡ decode file
   table-is = c .table .ensures ∙ table-some _ _ (c .before .before .early-code .ensures) (c .before .if1 .left)
 
-  table-counted : Counted (c .table .result)
+  table-counted : (c .table .result .m ≤ 96) × (c .table .result .k ≤ 16)
   table-counted = counted _ _ (file-whole _ _ (c .before .before .early-code .ensures) (c .before .if1 .left)) table-is
 
   table-sized : length (c .table .result .segments) ≡ 96
   table-sized = search (needs, length-mapped)
 
--- The place behind the code of the parts, and the place behind the table.
+-- The columns are the table's track, so that the code of its parts is the file's.
 module _ (c : tie.After-parts-code) where
   abbrev columns : tie.After-far-boxes2
   columns = c .before .before .before .before .before
 
   abbrev tabled : tie.After-table
-  tabled = c .before .before .before .before .before .before .before .before .before .before
+  tabled = columns .before .before .before .before .before
 
-  -- The columns are the table's track, so that the code of the parts is the file's.
+  track-is : trackIn (columns .before .far-boxes .result) (columns .far-boxes2 .result) ≡ trackOf (tabled .table .result)
+  track-is = track-made _ (table-sized tabled) (columns .before .far-boxes .ensures) (columns .far-boxes2 .ensures)
+
   code-is : c .parts-code .result ≡ fileCode (file tabled)
   code-is =
-      let made = track-made _ (table-sized tabled) (columns .before .far-boxes .ensures) (columns .far-boxes2 .ensures) in
       code-late _ _ (tabled .before .before .early-code .ensures) (tabled .before .if1 .left) _ _ (tabled .table .ensures)
-      (parts-answer _ _ made (c .parts-code .ensures))
+      (parts-answer _ _ track-is (c .parts-code .ensures))
 
 returns-2 : tie.Need-returns-2
 returns-2 c = read-refused _ _ _ (code-is (c .before .before)) (c .before .if2 .taken) (c .line2 .ensures)
 
+-- Where the boxes are made, the table is accepted.
+abbrev accepted : tie.After-b2 → tie.Else2
+accepted c = c .before .before .before .before
+
 returns-3 : tie.Need-returns-3
 returns-3 c =
-    let code = c .before .before .before .before in
-    read-accepted _ _ _ (code-is code) _ (c .before .before .before .if2 .left) (table-is (tabled code))
-    (start-line _ _ _ (c .before .before .boxes .ensures) (c .before .trains .ensures))
+    let made = c .before .before in
+    let code = accepted (made .before) .before in
+    read-accepted _ _ _ (code-is code) _ (accepted (made .before) .if2 .left) (table-is (tabled code))
+    (start-line _ _ _ _ (track-is code) (made .boxes .ensures) (c .before .trains .ensures))
 
 pub read-spec : {M : Type 1} → statement M
 read-spec =
@@ -70,6 +76,6 @@ read-spec =
     (λ c κs. search needs)
     (λ c κs. search needs)
     returns-2
-    (λ c κs. table-counted (tabled (c .before)))
-    (λ c κs. table-counted (tabled (c .before .before)))
+    (λ c κs. table-counted (tabled (accepted c .before)))
+    (λ c κs. table-counted (tabled (accepted (c .before) .before)) .1)
     returns-3)

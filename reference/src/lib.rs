@@ -6,6 +6,7 @@ pub mod atomic;
 pub mod compare;
 pub mod counts;
 pub mod demand;
+pub mod fast;
 pub mod fault;
 pub mod generate;
 pub mod line;

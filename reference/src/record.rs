@@ -1,7 +1,8 @@
 //! A line record in fixed arrays, as the crates have it: 96 segments and boxes, 16 trains, 64 places
 //! a route, a train's holdings those of its next segment. It may be changed field by field into
-//! something that no steps reach, and read as a line of this implementation.
+//! something that no steps reach, and read as a line of either engine.
 
+use crate::fast;
 use crate::line::*;
 use crate::numbers::*;
 use crate::table::*;
@@ -137,6 +138,32 @@ impl Record {
         let mut line = Line { table, boxes, trains };
         for i in 0..k as usize {
             self.record_holdings(&mut line, i);
+        }
+        line
+    }
+
+    /// The line of the fast engine that the record describes.
+    pub fn fast_line(&self) -> fast::Line {
+        let [high, low, counts @ ..] = self.head;
+        let mut line = fast::Line::NONE;
+        line.table.version = u16::from_be_bytes([high, low]);
+        line.table.counts = counts;
+        line.table.segments = self.segments;
+        line.table.boxes = self.plans;
+        for (i, &[sensor, position, lock, reserved @ ..]) in self.boxes.iter().enumerate() {
+            line.boxes[i] = fast::BoxState { sensor: sensor != 0, position, lock };
+            line.holders[3 * i..][..3].copy_from_slice(&reserved);
+        }
+        for i in 0..MAX_TRAINS {
+            let [direction, length] = self.train_plans[i];
+            line.table.routes[i] = fast::Route { direction, length, places: self.table_routes[i] };
+            let [direction, length, place, covered, known @ .., _, _, _, _] = self.trains[i];
+            line.routes[i] = fast::Route { direction, length, places: self.routes[i] };
+            let message = self.message(i).into();
+            line.trains[i] = fast::Train { place, covered, message, ..fast::Train::NONE };
+            line.look_around(i);
+            let train = &mut line.trains[i];
+            [train.near, train.far, train.lock] = known.map(|known| known != 0 && train.around.next != 0);
         }
         line
     }

@@ -1,0 +1,23 @@
+//! The same rules written for speed: one line in fixed arrays, changed in place, with no heap. What
+//! stands around a train is kept with it and made anew when it moves. The tests hold it to the
+//! engine beside it, which is written to be read.
+
+mod line;
+mod line_check;
+mod records;
+mod step;
+mod table;
+
+pub use line::Line;
+pub(crate) use line::{BoxState, Train};
+pub(crate) use table::Route;
+
+/// Reads the file and takes the steps from its start line on; the code of each goes to `answers`.
+/// The file's code, or 26 where `answers` is shorter than the list; it is as it was then.
+pub fn run(file: &[u8], steps: &[u8], answers: &mut [u8]) -> u8 {
+    let mut line = Line::NONE;
+    match line.read(file) {
+        0 => line.run(steps, answers),
+        code => code,
+    }
+}

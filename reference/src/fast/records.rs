@@ -1,0 +1,192 @@
+//! The records of a table where they stand, in a file or in a line, and the codes that they get:
+//! 1 to 5 for a file, 6 to 12 for both.
+
+use crate::table::*;
+use crate::table_read::MARK;
+
+pub struct Records<'a> {
+    /// Boxes at the A end and at the B end.
+    pub segments: &'a [[u8; 2]],
+    /// Kind, stem, left, right and position at the start.
+    pub boxes: &'a [[u8; 5]],
+    trains: usize,
+    /// Direction and segments; those beyond the number of trains are empty.
+    routes: [(u8, &'a [u8]); MAX_TRAINS],
+}
+
+/// Codes 3 and 4 of a table's head.
+pub fn head_code(version: u16, [n, m, k]: [u8; 3]) -> u8 {
+    let [n, m, k] = [n, m, k].map(usize::from);
+    let fit = (MIN_SEGMENTS..=MAX_SEGMENTS).contains(&n) && (MIN_BOXES..=MAX_BOXES).contains(&m) && k <= MAX_TRAINS;
+    if version != VERSION {
+        3
+    } else if !fit {
+        4
+    } else {
+        0
+    }
+}
+
+/// Whether a number is 0 or above the last one.
+fn outside(number: u8, last: usize) -> bool {
+    usize::from(number).wrapping_sub(1) >= last
+}
+
+impl<'a> Records<'a> {
+    /// The records of a line's table, of which the trains are given.
+    pub fn new(segments: &'a [[u8; 2]], boxes: &'a [[u8; 5]], trains: impl Iterator<Item = (u8, &'a [u8])>) -> Self {
+        let mut records = Records { segments, boxes, trains: 0, routes: [(0, &[]); MAX_TRAINS] };
+        for (route, given) in records.routes.iter_mut().zip(trains) {
+            *route = given;
+            records.trains += 1;
+        }
+        records
+    }
+
+    /// The records of a file, or one of the codes 1 to 5.
+    pub fn in_file(file: &'a [u8]) -> Result<Self, u8> {
+        let Some((&[x, y, z, high, low, n, m, k], body)) = file.split_first_chunk() else {
+            return Err(1);
+        };
+        if [x, y, z] != MARK {
+            return Err(2);
+        }
+        match head_code(u16::from_be_bytes([high, low]), [n, m, k]) {
+            0 => Self::in_body(body, [n, m, k].map(usize::from)).ok_or(5),
+            code => Err(code),
+        }
+    }
+
+    /// The records behind the head, if they are as long as they say.
+    fn in_body(body: &'a [u8], [n, m, k]: [usize; 3]) -> Option<Self> {
+        let (segments, body) = body.split_at_checked(2 * n)?;
+        let (boxes, mut body) = body.split_at_checked(5 * m)?;
+        let mut routes: [(u8, &[u8]); MAX_TRAINS] = [(0, &[]); MAX_TRAINS];
+        for route in &mut routes[..k] {
+            let (&[direction, length], rest) = body.split_first_chunk()?;
+            let (segments, rest) = rest.split_at_checked(usize::from(length))?;
+            *route = (direction, segments);
+            body = rest;
+        }
+        let (segments, boxes) = (segments.as_chunks().0, boxes.as_chunks().0);
+        body.is_empty().then_some(Records { segments, boxes, trains: k, routes })
+    }
+
+    pub fn routes(&self) -> &[(u8, &'a [u8])] {
+        &self.routes[..self.trains]
+    }
+
+    /// The first of the codes 6 to 12, or 0.
+    pub fn code(&self) -> u8 {
+        match () {
+            _ if self.ends_fail() => 6,
+            _ if self.places_fail() => 7,
+            _ if self.listing_fails() => 8,
+            _ if self.has_loop() => 9,
+            _ if self.routes().iter().any(|&(direction, route)| shape_fails(direction, route)) => 10,
+            _ if self.routes().iter().any(|&(direction, route)| self.follow_fails(direction, route)) => 11,
+            _ if self.firsts_clash() => 12,
+            _ => 0,
+        }
+    }
+
+    /// Whether 10 or 11 stops a route.
+    pub fn route_fails(&self, direction: u8, route: &[u8]) -> bool {
+        shape_fails(direction, route) || self.follow_fails(direction, route)
+    }
+
+    /// 6: an end at no box, or both ends at one.
+    fn ends_fail(&self) -> bool {
+        let m = self.boxes.len();
+        self.segments.iter().fold(false, |fails, &[a, b]| fails | outside(a, m) | outside(b, m) | (a == b))
+    }
+
+    /// 7: kind, needed and unused places, equal branches, position.
+    fn places_fail(&self) -> bool {
+        let lacks = |segment| outside(segment, self.segments.len());
+        self.boxes.iter().any(|&[kind, stem, left, right, position]| {
+            lacks(stem)
+                || match kind {
+                    BORDER => (left | right | position) != 0,
+                    LINK => lacks(left) | ((right | position) != 0),
+                    POINT => lacks(left) | lacks(right) | (left == right) | outside(position, 2),
+                    _ => true,
+                }
+        })
+    }
+
+    /// 8: a place whose segment does not end at the box on the side it has to, or an end that no place lists. No box
+    /// lists a segment twice (7, and the sides), so that each place lists an end of its own and all are listed if
+    /// there are as many places as ends.
+    fn listing_fails(&self) -> bool {
+        let mut places = 0;
+        for (number, &[kind, stem, left, right, _]) in (1..).zip(self.boxes) {
+            let stem = self.segments[usize::from(stem) - 1];
+            // The stem has one of its ends here and each branch the other one.
+            let begins = stem[0] == number;
+            let branch_end = usize::from(begins);
+            let fails = |branch: u8| self.segments[usize::from(branch) - 1][branch_end] != number;
+            if !(begins || stem[1] == number) || (kind != BORDER && fails(left)) || (kind == POINT && fails(right)) {
+                return true;
+            }
+            places += usize::from(kind) + 1;
+        }
+        places != 2 * self.segments.len()
+    }
+
+    /// 9: boxes at which no segment ends are taken away, with the segments that begin there, until there are no more
+    /// of them; what stays holds a loop. 8 has passed, so that at most two segments begin at a box.
+    fn has_loop(&self) -> bool {
+        let mut ending = [0u8; MAX_BOXES + 1];
+        let mut beyond = [[0u8; 2]; MAX_BOXES + 1];
+        for &[a, b] in self.segments {
+            ending[usize::from(b)] += 1;
+            let [first, second] = &mut beyond[usize::from(a)];
+            (*first, *second) = (b, *first);
+        }
+        // The boxes taken away, in order. A box is written behind the last one and stays where it is counted.
+        let mut taken = [0u8; MAX_BOXES + 1];
+        let mut count = 0;
+        for number in 1..=self.boxes.len() {
+            taken[count] = number as u8;
+            count += usize::from(ending[number] == 0);
+        }
+        let mut done = 0;
+        while done < count {
+            for number in beyond[usize::from(taken[done])] {
+                if number != 0 {
+                    let left = &mut ending[usize::from(number)];
+                    *left -= 1;
+                    taken[count] = number;
+                    count += usize::from(*left == 0);
+                }
+            }
+            done += 1;
+        }
+        count < self.boxes.len()
+    }
+
+    /// 11: a segment that the table lacks, or one that does not follow the one before.
+    fn follow_fails(&self, direction: u8, route: &[u8]) -> bool {
+        let far = usize::from(direction == 0);
+        let ends = |segment: u8| self.segments.get(usize::from(segment).wrapping_sub(1));
+        let Some(mut before) = ends(route[0]) else {
+            return true;
+        };
+        route[1..].iter().any(|&segment| match ends(segment) {
+            Some(after) => std::mem::replace(&mut before, after)[far] != after[1 - far],
+            None => true,
+        })
+    }
+
+    /// 12: two trains with one first segment. Segments have numbers up to 96 (11).
+    fn firsts_clash(&self) -> bool {
+        let firsts = self.routes().iter().fold(0u128, |firsts, (_, route)| firsts | 1 << route[0]);
+        firsts.count_ones() as usize != self.trains
+    }
+}
+
+/// 10: a direction above 1, or a length outside 1 to 64.
+fn shape_fails(direction: u8, route: &[u8]) -> bool {
+    direction > 1 || route.is_empty() || route.len() > MAX_ROUTE
+}

@@ -1,0 +1,116 @@
+//! The table part of a line: fixed arrays, of which what lies beyond n, m, k and the length of a route plays
+//! no part.
+
+use super::records::{head_code, Records};
+use crate::table::*;
+use crate::table_read::MARK;
+
+/// A train's direction and route.
+#[derive(Clone, Copy, Debug)]
+pub struct Route {
+    pub direction: u8,
+    pub length: u8,
+    pub places: [u8; MAX_ROUTE],
+}
+
+impl Route {
+    pub const NONE: Route = Route { direction: 0, length: 0, places: [0; MAX_ROUTE] };
+
+    /// The segments; none where the length is more than a route can have.
+    pub fn segments(&self) -> &[u8] {
+        self.places.get(..usize::from(self.length)).unwrap_or(&[])
+    }
+
+    /// The segment at an index; 0 outside the route.
+    pub fn segment(&self, index: u8) -> u8 {
+        self.segments().get(usize::from(index)).copied().unwrap_or(0)
+    }
+
+    /// Takes over a route of at most 64 segments.
+    pub fn set(&mut self, direction: u8, segments: &[u8]) {
+        (self.direction, self.length) = (direction, segments.len() as u8);
+        self.places[..segments.len()].copy_from_slice(segments);
+    }
+}
+
+#[derive(Clone, Debug)]
+pub struct Table {
+    pub version: u16,
+    /// n, m and k.
+    pub counts: [u8; 3],
+    pub segments: [[u8; 2]; MAX_SEGMENTS],
+    pub boxes: [[u8; 5]; MAX_BOXES],
+    pub routes: [Route; MAX_TRAINS],
+}
+
+impl Table {
+    pub const NONE: Table = Table {
+        version: 0,
+        counts: [0; 3],
+        segments: [[0; 2]; MAX_SEGMENTS],
+        boxes: [[0; 5]; MAX_BOXES],
+        routes: [Route::NONE; MAX_TRAINS],
+    };
+
+    /// n, m and k.
+    pub fn counts(&self) -> [usize; 3] {
+        self.counts.map(usize::from)
+    }
+
+    /// The boxes at the A end and at the B end; 0 for a number that no segment has.
+    pub fn ends(&self, segment: u8) -> [u8; 2] {
+        self.segments.get(usize::from(segment).wrapping_sub(1)).copied().unwrap_or([0; 2])
+    }
+
+    /// The records, if their head has neither code 3 nor 4.
+    fn records(&self) -> Result<Records<'_>, u8> {
+        match head_code(self.version, self.counts) {
+            0 => {}
+            code => return Err(code),
+        }
+        let [n, m, k] = self.counts();
+        let routes = self.routes[..k].iter().map(|route| (route.direction, route.segments()));
+        Ok(Records::new(&self.segments[..n], &self.boxes[..m], routes))
+    }
+
+    /// The records, or the code that refuses them: 3, 4 or 6 to 12.
+    pub fn checked(&self) -> Result<Records<'_>, u8> {
+        let records = self.records()?;
+        match records.code() {
+            0 => Ok(records),
+            code => Err(code),
+        }
+    }
+
+    /// Takes over records that were accepted.
+    pub fn set(&mut self, records: &Records) {
+        let (segments, boxes, routes) = (records.segments, records.boxes, records.routes());
+        self.version = VERSION;
+        self.counts = [segments.len(), boxes.len(), routes.len()].map(|count| count as u8);
+        self.segments[..segments.len()].copy_from_slice(segments);
+        self.boxes[..boxes.len()].copy_from_slice(boxes);
+        for (own, &(direction, segments)) in self.routes.iter_mut().zip(routes) {
+            own.set(direction, segments);
+        }
+    }
+
+    /// Writes the file to the front of the buffer and gives its length. Refused: 3, 4, 6 to 12 or 26.
+    pub fn write(&self, buffer: &mut [u8]) -> Result<usize, u8> {
+        let records = self.checked()?;
+        let (segments, boxes) = (records.segments.as_flattened(), records.boxes.as_flattened());
+        let routes = records.routes().iter().map(|(_, route)| 2 + route.len()).sum::<usize>();
+        let length = 8 + segments.len() + boxes.len() + routes;
+        let mut rest = buffer.get_mut(..length).ok_or(26)?;
+        let mut put = |bytes: &[u8]| rest.split_off_mut(..bytes.len()).expect("there is room").copy_from_slice(bytes);
+        put(&MARK);
+        put(&self.version.to_be_bytes());
+        put(&self.counts);
+        put(segments);
+        put(boxes);
+        for (direction, route) in records.routes() {
+            put(&[*direction, route.len() as u8]);
+            put(route);
+        }
+        Ok(length)
+    }
+}

@@ -1,0 +1,248 @@
+//! The fast engine and the readable one give the same for generated files, steps and records, and a readable one
+//! with a fault is found to differ.
+
+mod common;
+use common::table_96;
+use reference::fast;
+use reference::fault::{Fault, FAULTS};
+use reference::generate::damage::damaged_file;
+use reference::generate::made_up::{changes, step_on, Aim, AIMS};
+use reference::generate::outside::table_with_steps;
+use reference::generate::prng::Prng;
+use reference::generate::steps::drive;
+use reference::generate::tables::{accepted_table, largest_table};
+use reference::line::{start_line, start_line_with, Line};
+use reference::line_check::record_code;
+use reference::numbers::{box_numbers, train_numbers};
+use reference::record::Record;
+use reference::step::{step, step_with, Step};
+use reference::table::{Table, BORDER, LINK, MAX_BOXES, MAX_TRAINS};
+use reference::table_read::{read_table, read_table_with};
+use reference::table_write::{file_bytes, write_table};
+
+/// Whether all trains and boxes are the same.
+fn same(line: &Line, fast: &fast::Line) -> bool {
+    (0..line.trains.len()).all(|i| train_numbers(line, i) == fast.train_numbers(i))
+        && (0..line.boxes.len()).all(|i| box_numbers(&line.boxes[i]) == fast.box_numbers(i))
+}
+
+/// The fast start line of an accepted file.
+fn fast_start(file: &[u8]) -> fast::Line {
+    let mut line = fast::Line::NONE;
+    assert_eq!(line.read(file), 0);
+    line
+}
+
+/// Whether the fast engine reads the file as the readable one does with a fault.
+fn reads_alike(file: &[u8], fault: Fault) -> bool {
+    let mut line = fast::Line::NONE;
+    let code = line.read(file);
+    match read_table_with(file, fault) {
+        Ok(table) => code == 0 && same(&start_line(&table), &line),
+        Err(refused) => code == refused,
+    }
+}
+
+/// Whether the fast engine runs the steps as the readable one does with a fault.
+fn runs_alike(table: &Table, steps: &[u8], fault: Fault) -> bool {
+    let mut line = start_line_with(table, fault);
+    let codes: Vec<u8> = steps
+        .chunks(3)
+        .map(|bytes| Step::try_from(bytes).map_or(13, |whole| step_with(&mut line, whole, fault)))
+        .collect();
+    let mut answers = vec![99; codes.len()];
+    let mut fast = fast_start(&file_bytes(table));
+    fast.run(steps, &mut answers) == 0 && answers == codes && same(&line, &fast)
+}
+
+/// Whether the fast engine writes the record's table as the readable one does, with rooms around the length.
+fn writes_alike(table: &Table, line: &fast::Line) -> bool {
+    let length = table.file_length();
+    [0, length.saturating_sub(1), length, length + 3].iter().all(|&room| {
+        let (mut buffer, mut other) = (vec![0xAA; room], vec![0xAA; room]);
+        line.write(&mut buffer) == write_table(table, &mut other) && buffer == other
+    })
+}
+
+/// All trains and boxes that a record has room for.
+fn numbers(line: &fast::Line) -> Vec<u8> {
+    let trains = (0..MAX_TRAINS).flat_map(|i| line.train_numbers(i));
+    trains.chain((0..MAX_BOXES).flat_map(|i| line.box_numbers(i))).collect()
+}
+
+/// Whether made-up records, one for each aim and more that pass 27, have the same code of a checked step, which is
+/// counted, and the same record after it, and are written alike.
+fn records_alike(case: u64, fault: Fault, codes: &mut [u32; 28]) -> bool {
+    let mut rng = Prng::for_case(34, case);
+    let mut reached = start_line(&accepted_table(&mut rng));
+    drive(&mut rng, &mut reached, case as usize % 200);
+    AIMS.into_iter().chain([Aim::Nothing; 20]).all(|aim| {
+        let Some(changes) = changes(&mut rng, &reached, aim) else {
+            return true;
+        };
+        let mut record = Record::of(&reached);
+        changes.iter().for_each(|&change| record.change(change));
+        let (mut line, mut fast) = (record.line(), record.fast_line());
+        let bytes = step_on(&mut rng, if aim == Aim::Nothing { &line } else { &reached }, &changes);
+        let code = match record_code(&line) {
+            0 => step_with(&mut line, bytes, fault),
+            code => code,
+        };
+        codes[usize::from(code)] += 1;
+        let answer = fast.step_checked(bytes);
+        let same_record = match code {
+            27 => numbers(&fast) == numbers(&record.fast_line()),
+            _ => same(&line, &fast),
+        };
+        answer == code && same_record && writes_alike(&line.table, &fast)
+    })
+}
+
+#[test]
+fn files() {
+    let mut codes = [0; 13];
+    for case in 0..300 {
+        let mut rng = Prng::for_case(31, case);
+        let table = match case % 10 {
+            0 => largest_table(&mut rng),
+            _ => accepted_table(&mut rng),
+        };
+        for aim in 0..40 {
+            let file = damaged_file(&mut rng, &table, aim);
+            assert!(reads_alike(&file, Fault::None), "{file:?}");
+            codes[usize::from(read_table(&file).err().unwrap_or(0))] += 1;
+        }
+        let file = file_bytes(&table);
+        assert!(reads_alike(&file, Fault::None) && writes_alike(&table, &fast_start(&file)));
+    }
+    assert!(codes.iter().all(|&count| count > 100), "{codes:?}");
+}
+
+/// Every change of a byte of a small file, and every front part of a large one.
+#[test]
+fn files_byte_by_byte() {
+    for at in 0..common::S.len() {
+        for value in 0..=255 {
+            let mut file = common::S;
+            file[at] = value;
+            assert!(reads_alike(&file, Fault::None), "{at} {value}");
+        }
+    }
+    let file = file_bytes(&table_96());
+    assert!((0..=file.len()).all(|length| reads_alike(&file[..length], Fault::None)));
+}
+
+/// Rings of links, alone and beside a track: a loop of every length.
+#[test]
+fn loops() {
+    for length in 2..=94 {
+        for first in [1, 3] {
+            let mut table = Table { version: 1, ..Table::default() };
+            if first == 3 {
+                table.segments = common::segments(&[[1, 2]]);
+                table.boxes = common::boxes(&[[BORDER, 1, 0, 0, 0], [BORDER, 1, 0, 0, 0]]);
+            }
+            let before = table.segments.len() as u8;
+            for i in 0..length {
+                let (next, last) = ((i + 1) % length, (i + length - 1) % length);
+                table.segments.extend(common::segments(&[[first + i, first + next]]));
+                table.boxes.extend(common::boxes(&[[LINK, before + i + 1, before + last + 1, 0, 0]]));
+            }
+            let file = file_bytes(&table);
+            assert_eq!(read_table(&file), Err(9));
+            assert!(reads_alike(&file, Fault::None));
+        }
+    }
+}
+
+#[test]
+fn runs() {
+    for case in 0..400 {
+        let mut rng = Prng::for_case(32, case);
+        let (table, steps) = table_with_steps(&mut rng, case);
+        assert!(runs_alike(&table, &steps, Fault::None), "case {case}");
+        let random: Vec<u8> = (0..300).map(|_| rng.byte()).collect();
+        assert!(runs_alike(&table, &random, Fault::None), "case {case}, random bytes");
+    }
+}
+
+/// Codes of a run as a whole: the file's, then 26, with the answers as they were.
+#[test]
+fn runs_refused() {
+    let mut answers = [99; 3];
+    assert_eq!(fast::run(&common::S[..45], &[0; 3], &mut answers), 5);
+    for length in 10..20 {
+        assert_eq!(fast::run(&common::S, &vec![0; length], &mut answers), 26);
+    }
+    assert_eq!(answers, [99; 3]);
+    assert_eq!(fast::run(&common::S, &[1, 1, 2, 5], &mut answers), 0);
+    assert_eq!(answers, [0, 13, 99]);
+}
+
+/// A line that was used is read to, and nothing of what it was stays; a refused file leaves it as it was.
+#[test]
+fn lines_are_used_again() {
+    let mut fast = fast::Line::NONE;
+    for case in 0..200 {
+        let mut rng = Prng::for_case(33, case);
+        let mut line = start_line(&accepted_table(&mut rng));
+        assert_eq!(fast.read(&file_bytes(&line.table)), 0);
+        assert!(same(&line, &fast));
+        for (bytes, code) in drive(&mut rng, &mut line, 200) {
+            assert_eq!(fast.step(bytes), code);
+        }
+        assert_ne!(fast.read(&[0; 8]), 0);
+        assert_ne!(fast.read(&file_bytes(&line.table)[8..]), 0);
+        assert!(same(&line, &fast));
+    }
+}
+
+#[test]
+fn records() {
+    let mut none = fast::Line::NONE;
+    assert_eq!(none.step_checked([0; 3]), 27);
+    let mut codes = [0; 28];
+    assert!((0..800).all(|case| records_alike(case, Fault::None, &mut codes)));
+    let seen = |code: usize| code == 0 || code > 12 && code != 26;
+    assert!((0..28).all(|code| (codes[code] > 20) == seen(code)), "{codes:?}");
+}
+
+/// Steps that change the line are taken by checked calls as by plain ones.
+#[test]
+fn checked_steps() {
+    for case in 0..100 {
+        let mut rng = Prng::for_case(35, case);
+        let table = accepted_table(&mut rng);
+        let (mut line, mut fast) = (start_line(&table), fast_start(&file_bytes(&table)));
+        for (bytes, code) in drive(&mut rng, &mut line.clone(), 200) {
+            assert_eq!(fast.step_checked(bytes), code);
+            assert_eq!(step(&mut line, bytes), code);
+            assert!(same(&line, &fast));
+        }
+    }
+}
+
+/// The comparison finds every fault of the readable engine that shows at all: the last two of these four only made-up
+/// records tell, the first two nothing.
+#[test]
+fn faults_are_found() {
+    let unseen = [Fault::NextBeforeMessage, Fault::RecordsKept, Fault::OwnSegmentRefused, Fault::LockNeedsNextOnly];
+    for &fault in FAULTS {
+        let alike = (0..200).all(|case| {
+            let mut rng = Prng::for_case(36, case);
+            match fault.in_reader() {
+                true => {
+                    let table = accepted_table(&mut rng);
+                    (0..40).all(|aim| reads_alike(&damaged_file(&mut rng, &table, aim), fault))
+                }
+                false => {
+                    let (table, steps) = table_with_steps(&mut rng, case);
+                    runs_alike(&table, &steps, fault)
+                }
+            }
+        });
+        assert_eq!(alike, unseen.contains(&fault), "{fault:?}");
+    }
+    let in_records = unseen.map(|fault| (0..400).all(|case| records_alike(case, fault, &mut [0; 28])));
+    assert_eq!(in_records, [true, true, false, false]);
+}

@@ -1,39 +1,73 @@
-//! Times of calls, in rounds taken in turn, so that a slow moment of the machine strikes all of them.
+//! Times of all operations of all engines on one case. They are taken in turn within a round, so that a slow moment of the
+//! machine strikes all of them.
 
+use crate::cases::{Case, List, LISTS, STEPS};
+use crate::engines::{Engine, CHECKED, ENGINES, OPERATIONS, READING, RUN, WRITING};
+use std::hint::black_box;
 use std::time::Instant;
 
-/// Nanoseconds a call: in the quickest round, and in the median one.
-#[derive(Clone, Copy, Debug)]
+pub const ROUNDS: usize = 8 * LISTS;
+/// Calls in a round, for each operation.
+const CALLS: [usize; 4] = [100, 100, 1, 1];
+/// Steps of the front part of a list that is taken by checked calls.
+const FEW: usize = 300;
+
+/// Nanoseconds a call, or a step of a call: in the quickest round, and in the median one.
+#[derive(Clone, Copy)]
 pub struct Times {
     pub least: f64,
     pub median: f64,
 }
 
-impl Times {
-    /// The times of a part of a call, one of so many.
-    pub fn over(self, parts: usize) -> Times {
-        Times { least: self.least / parts as f64, median: self.median / parts as f64 }
+/// Times of the operations, for each of the engines, after all of them gave what they must.
+pub fn measure(case: &Case) -> Vec<[Times; 4]> {
+    let mut rounds = vec![[const { Vec::new() }; 4]; ENGINES.len()];
+    let mut buffer = vec![0; STEPS.max(case.file.len())];
+    for engine in ENGINES {
+        case.lists.iter().for_each(|list| agree(engine, &case.file, list));
     }
-}
-
-/// The times of each of the calls.
-pub fn times<const N: usize>(rounds: usize, calls: u32, each: &mut [&mut dyn FnMut(); N]) -> [Times; N] {
-    let mut all = [(); N].map(|_| Vec::new());
-    for _ in 0..rounds {
-        for (call, times) in each.iter_mut().zip(&mut all) {
-            times.push(round(calls, call));
+    for round in 0..ROUNDS {
+        let list = &case.lists[round % LISTS];
+        for operation in 0..OPERATIONS.len() {
+            for turn in 0..ENGINES.len() {
+                let engine = (round + turn) % ENGINES.len();
+                let time = one_round(&ENGINES[engine], operation, &case.file, &list.steps, &mut buffer);
+                rounds[engine][operation].push(time);
+            }
         }
     }
-    all.map(|mut t| {
-        t.sort_by(f64::total_cmp);
-        Times { least: t[0], median: t[rounds / 2] }
-    })
+    rounds.into_iter().map(|operations| operations.map(times)).collect()
 }
 
-fn round(calls: u32, call: &mut dyn FnMut()) -> f64 {
+/// Nanoseconds a call or a step in one round.
+fn one_round(engine: &Engine, operation: usize, file: &[u8], steps: &[u8], buffer: &mut [u8]) -> f64 {
+    let steps = if operation == CHECKED { &steps[..3 * FEW] } else { steps };
     let start = Instant::now();
-    for _ in 0..calls {
-        call();
+    for _ in 0..CALLS[operation] {
+        black_box(engine.calls[operation](black_box(file), black_box(steps), black_box(buffer)));
     }
-    start.elapsed().as_nanos() as f64 / f64::from(calls)
+    let time = start.elapsed().as_nanos() as f64 / CALLS[operation] as f64;
+    match operation {
+        RUN | CHECKED => time / (steps.len() / 3) as f64,
+        _ => time,
+    }
+}
+
+fn times(mut rounds: Vec<f64>) -> Times {
+    rounds.sort_by(f64::total_cmp);
+    Times { least: rounds[0], median: rounds[rounds.len() / 2] }
+}
+
+/// The engine reads the file, writes it back and gives the steps the codes that they must have.
+fn agree(engine: &Engine, file: &[u8], List { steps, codes }: &List) {
+    let name = engine.name;
+    let mut written = vec![0; file.len()];
+    assert_eq!(engine.calls[READING](file, &[], &mut []), 0, "{name} reads the file");
+    assert_eq!(engine.calls[WRITING](file, &[], &mut written), 0);
+    assert_eq!(written, file, "{name} writes it back");
+    for (operation, count) in [(RUN, STEPS), (CHECKED, FEW)] {
+        let mut answers = vec![99; count];
+        assert_eq!(engine.calls[operation](file, &steps[..3 * count], &mut answers), 0);
+        assert!(answers == codes[..count], "{name} gives the codes of the steps");
+    }
 }

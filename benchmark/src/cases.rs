@@ -1,0 +1,109 @@
+//! Tables, each with several lists of steps. A list that is run again and again alone is learnt by heart by the processor,
+//! which then foresees every branch; so each round takes another one.
+
+use reference::generate::draft::Style;
+use reference::generate::prng::Prng;
+use reference::generate::steps::{drive, step_bytes};
+use reference::generate::tables::{largest_table, table_of};
+use reference::line::start_line;
+use reference::step::{step, Step};
+use reference::table::{Segment, SwitchBox, Table, TrainEntry, BORDER, LINK};
+use reference::table_read::read_table;
+use reference::table_write::file_bytes;
+
+const S: &[u8] = include_bytes!("../../samples/s/net");
+/// Lists of a table, and steps of a list.
+pub const LISTS: usize = 16;
+pub const STEPS: usize = 20_000;
+
+pub struct Case {
+    pub name: String,
+    pub file: Vec<u8>,
+    pub lists: Vec<List>,
+}
+
+/// Steps, and the codes that the readable engine of the second implementation gives them.
+pub struct List {
+    pub steps: Vec<u8>,
+    pub codes: Vec<u8>,
+}
+
+impl Case {
+    /// Steps as the generator's driver takes them.
+    fn driven(name: String, table: Table) -> Case {
+        Case::new(name, table, |rng, table| drive(rng, &mut start_line(table), STEPS))
+    }
+
+    fn new(name: String, table: Table, steps: fn(&mut Prng, &Table) -> Vec<(Step, u8)>) -> Case {
+        let list = |case| {
+            let events = steps(&mut Prng::for_case(5, case), &table);
+            List { steps: step_bytes(&events), codes: events.iter().map(|&(_, code)| code).collect() }
+        };
+        Case { name, file: file_bytes(&table), lists: (0..LISTS as u64).map(list).collect() }
+    }
+
+    /// Steps that are accepted, in percent.
+    pub fn accepted(&self) -> f64 {
+        let codes = || self.lists.iter().flat_map(|list| &list.codes);
+        100.0 * codes().filter(|&&code| code == 0).count() as f64 / codes().count() as f64
+    }
+}
+
+pub fn table_s() -> Case {
+    Case::driven("table S".to_string(), read_table(S).expect("table S is accepted"))
+}
+
+pub fn largest(seed: u64) -> Case {
+    Case::driven(format!("largest, seed {seed}"), largest_table(&mut Prng::for_case(seed, 0)))
+}
+
+/// Each step three random bytes.
+pub fn random_bytes() -> Case {
+    Case::new("random bytes".to_string(), largest_table(&mut Prng::for_case(0, 0)), |rng, table| {
+        let mut line = start_line(table);
+        (0..STEPS).map(|_| [0; 3].map(|_| rng.byte())).map(|bytes| (bytes, step(&mut line, bytes))).collect()
+    })
+}
+
+/// Table S; the largest tables that the generator makes; one of them with random bytes for steps; the longest single track,
+/// its segments numbered in three ways; tables of growing n and m with few trains, and of growing k.
+pub fn all() -> Vec<Case> {
+    let mut all = vec![table_s()];
+    all.extend((0..4).map(largest));
+    all.push(random_bytes());
+    let mut numbers: Vec<u8> = (1..=95).collect();
+    all.push(Case::driven("track in order".to_string(), track(&numbers)));
+    numbers.reverse();
+    all.push(Case::driven("track reversed".to_string(), track(&numbers)));
+    Prng::for_case(7, 0).shuffle(&mut numbers);
+    all.push(Case::driven("track shuffled".to_string(), track(&numbers)));
+    let style = Style { link: 2, split: 0, merge: 0, diamond: 8, start: 0, close: 0 };
+    for (segments, trains) in [(6, 2), (12, 2), (24, 2), (48, 2), (96, 2), (96, 1), (96, 4), (96, 8), (96, 16)] {
+        let table = table_of(&mut Prng::for_case(11, 0), style, segments, trains);
+        let (n, m, k) = (table.segments.len(), table.boxes.len(), table.trains.len());
+        all.push(Case::driven(format!("{n} segments, {m} boxes, {k} trains"), table));
+    }
+    all
+}
+
+/// A single track of segments with these numbers, from one border through links to the other; boxes are numbered as the segments
+/// are. 16 trains stand one behind the other, with routes as long as they may be.
+fn track(numbers: &[u8]) -> Table {
+    let n = numbers.len();
+    // The box where the segment at place p begins has that segment's number; the last box is n + 1.
+    let begin = |p: usize| if p < n { numbers[p] } else { n as u8 + 1 };
+    let mut segments = vec![Segment::default(); n];
+    let mut boxes = vec![SwitchBox::default(); n + 1];
+    for p in 0..n {
+        segments[numbers[p] as usize - 1] = Segment { a: begin(p), b: begin(p + 1) };
+    }
+    for p in 0..=n {
+        boxes[begin(p) as usize - 1] = match p {
+            0 => SwitchBox { kind: BORDER, stem: numbers[0], ..Default::default() },
+            _ if p == n => SwitchBox { kind: BORDER, stem: numbers[n - 1], ..Default::default() },
+            _ => SwitchBox { kind: LINK, stem: numbers[p - 1], left: numbers[p], ..Default::default() },
+        };
+    }
+    let trains = (0..16).map(|i| TrainEntry { direction: 0, route: numbers[i..n.min(i + 64)].to_vec() }).collect();
+    Table { version: 1, segments, boxes, trains }
+}

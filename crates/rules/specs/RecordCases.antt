@@ -1,13 +1,14 @@
 -- Cases on records made up by hand: for each condition of the record check, 27, and steps on records that no steps reach; and the
 -- list of all cases.
 use Prim.Native.Nat.{ℕ}
-use mathlib.Core.Bool.{true, false}
+use mathlib.Core.Bool.{Bool, true, false}
 use mathlib.Core.List.{List, [], _∷_, _++_}
 use lib.ListN.{set, replicate}
 use Rattle.rules.specs.declared.Request.the-variants.{Reserve, Lock}
 use Rattle.rules.specs.declared.Message.{Message}
 use Rattle.rules.specs.declared.Message.the-variants.{Idle, Sent, Answered}
 use Rattle.rules.specs.declared.SwitchBox.{SwitchBox}
+use Rattle.rules.specs.declared.Train.{Train}
 use Rattle.rules.specs.declared.Line.{Line}
 use Rattle.rules.specs.File.{decode}
 use Rattle.rules.specs.Line.{startLine, emptyLine, noTrain, read, putTrain, putBox}
@@ -22,19 +23,14 @@ use Rattle.rules.specs.RunCases.{runCases, lentCases}
 abbrev pub startS : Line
 startS = startLine (decode tableS)
 
+abbrev pub made : ℕ → ℕ → ℕ → ℕ → Bool → Bool → Bool → Message → Train
+made d r place covered near far lock g =
+    record { direction = d; length = r; place = place; covered = covered; near = near; far = far; lock = lock; message = g }
+
 abbrev pub withTrain : ℕ → ℕ → ℕ → ℕ → Message → Line
 withTrain d r place covered g =
     putTrain startS 1
-    (record {
-      direction = d;
-      length = r;
-      place = place;
-      covered = covered;
-      near = false;
-      far = false;
-      lock = false;
-      message = g;
-    })
+    (made d r place covered false false false g)
 
 abbrev pub withBox : ℕ → ℕ → ℕ → ℕ → ℕ → ℕ → Line
 withBox b x lock stem left right =
@@ -135,16 +131,7 @@ abbrev pub heldByOther : Line
 heldByOther =
     putBox
     (putTrain startS 1
-    (record {
-      direction = 0;
-      length = 3;
-      place = 2;
-      covered = 2;
-      near = true;
-      far = false;
-      lock = true;
-      message = Idle;
-    }))
+    (made 0 3 2 2 true false true Idle))
     2
     (record { sensor = true; position = 2; lock = 2; stem = 2; left = 2; right = 2 })
 
@@ -152,16 +139,7 @@ abbrev pub openAtEnter : Line
 openAtEnter =
     putBox
     (putTrain startS 1
-    (record {
-      direction = 0;
-      length = 3;
-      place = 1;
-      covered = 1;
-      near = true;
-      far = true;
-      lock = true;
-      message = Sent (Reserve 2);
-    }))
+    (made 0 3 1 1 true true true (Sent (Reserve 2))))
     2
     (record { sensor = false; position = 1; lock = 2; stem = 0; left = 2; right = 0 })
 
@@ -173,30 +151,12 @@ overRight g =
     (putBox (withRoutes (set (startS .routes) 1 3)) 2
     (record { sensor = false; position = 1; lock = 0; stem = 1; left = 0; right = 1 }))
     1
-    (record {
-      direction = 0;
-      length = 3;
-      place = 1;
-      covered = 1;
-      near = true;
-      far = false;
-      lock = false;
-      message = g;
-    })
+    (made 0 3 1 1 true false false g)
 
 abbrev pub goingBack : Message → Line
 goingBack g =
     putTrain (withRoutes (set (set (startS .routes) 0 4) 2 1)) 1
-    (record {
-      direction = 1;
-      length = 3;
-      place = 1;
-      covered = 1;
-      near = false;
-      far = false;
-      lock = false;
-      message = g;
-    })
+    (made 1 3 1 1 false false false g)
 
 unfoldable pub madeUpCases : List Case
 madeUpCases =

@@ -35,7 +35,7 @@ apply l i b (Changed c r x) = record { code = c; line = putBox (putTrain l i r) 
 abbrev pub mostCovered : ℕ
 mostCovered = 2
 
--- The train with another message.
+-- The train with another message; at another place, covering so many segments; with other records of its next segment.
 unfoldable pub withMessage : Train → Message → Train
 withMessage r g =
     record {
@@ -47,6 +47,32 @@ withMessage r g =
       far = r .far;
       lock = r .lock;
       message = g;
+    }
+
+abbrev pub withPlace : Train → ℕ → ℕ → Train
+withPlace r place covered =
+    record {
+      direction = r .direction;
+      length = r .length;
+      place = place;
+      covered = covered;
+      near = r .near;
+      far = r .far;
+      lock = r .lock;
+      message = r .message;
+    }
+
+abbrev pub withHoldings : Train → Bool → Bool → Bool → Train
+withHoldings r near far lock =
+    record {
+      direction = r .direction;
+      length = r .length;
+      place = r .place;
+      covered = r .covered;
+      near = near;
+      far = far;
+      lock = lock;
+      message = r .message;
     }
 
 unfoldable pub isOpen : Message → Bool
@@ -100,11 +126,9 @@ boxRows v p x (Lock b) =
 unfoldable pub positionFor : BoxPlan → ℕ → ℕ → ℕ
 positionFor p s x = cond (joins p 1 s x) 1 2
 
--- The box after its yes. A reservation: the holder of next is set. A lock: front is joined to next, and the lock is the
--- train's.
-unfoldable pub granted : Around → BoxPlan → SwitchBox → Request → SwitchBox
-granted v p x (Reserve b) = setHolder p x (v .next) (v .number)
-granted v p x (Lock b) =
+-- A point whose lock is given to the train: front is joined to next.
+abbrev pub lockGiven : Around → BoxPlan → SwitchBox → SwitchBox
+lockGiven v p x =
     record {
       sensor = x .sensor;
       position = positionFor p (v .front) (v .next);
@@ -114,44 +138,19 @@ granted v p x (Lock b) =
       right = x .right;
     }
 
+-- The box after its yes. A reservation: the holder of next is set.
+unfoldable pub granted : Around → BoxPlan → SwitchBox → Request → SwitchBox
+granted v p x (Reserve b) = setHolder p x (v .next) (v .number)
+granted v p x (Lock b) = lockGiven v p x
+
 -- The train after it has recorded what it asked for.
 unfoldable pub withHolding : Around → Train → Request → Train
-withHolding v r (Reserve b) =
-    record {
-      direction = r .direction;
-      length = r .length;
-      place = r .place;
-      covered = r .covered;
-      near = eqb b (v .nearEnd) || r .near;
-      far = eqb b (v .farEnd) || r .far;
-      lock = r .lock;
-      message = r .message;
-    }
-withHolding v r (Lock b) =
-    record {
-      direction = r .direction;
-      length = r .length;
-      place = r .place;
-      covered = r .covered;
-      near = r .near;
-      far = r .far;
-      lock = true;
-      message = r .message;
-    }
+withHolding v r (Reserve b) = withHoldings r (eqb b (v .nearEnd) || r .near) (eqb b (v .farEnd) || r .far) (r .lock)
+withHolding v r (Lock b) = withHoldings r (r .near) (r .far) true
 
 -- The train after it has entered next: nothing is recorded of the segment that is next now.
 unfoldable pub entered : Train → Train
-entered r =
-    record {
-      direction = r .direction;
-      length = r .length;
-      place = r .place + 1;
-      covered = r .covered + 1;
-      near = false;
-      far = false;
-      lock = false;
-      message = r .message;
-    }
+entered r = withHoldings (withPlace r (r .place + 1) (r .covered + 1)) false false false
 
 -- The box that a train begins to cross.
 unfoldable pub sensed : SwitchBox → SwitchBox
@@ -167,17 +166,7 @@ sensed x =
 
 -- The train after its tail is cleared. Its records are all of next, which has no end at the box passed.
 unfoldable pub cleared : Train → Train
-cleared r =
-    record {
-      direction = r .direction;
-      length = r .length;
-      place = r .place;
-      covered = r .covered - 1;
-      near = r .near;
-      far = r .far;
-      lock = r .lock;
-      message = r .message;
-    }
+cleared r = withPlace r (r .place) (r .covered - 1)
 
 -- The box that a train has passed: sensor passive, lock free, the reservations of both segments free.
 unfoldable pub released : BoxPlan → SwitchBox → ℕ → ℕ → SwitchBox

@@ -11,8 +11,7 @@ ghost use Rattle.rules.specs.Rows.{first};
 ghost use Rattle.rules.specs.Track.{joins};
 ghost use Rattle.rules.specs.declared.Request.the-variants.{Reserve, Lock};
 ghost use Rattle.rules.specs.Line.{holderOf, setHolder};
-ghost use Rattle.rules.specs.Steps.{another, boxRows, positionFor, granted, released};
-ghost use Rattle.switchbox.specs.Lock.{lockGiven};
+ghost use Rattle.rules.specs.Steps.{another, boxRows, positionFor, lockGiven, granted, released};
 
 // The train that segment s is reserved for at a box, 0 where there is none.
 fn holder_of(p: BoxPlan, x: SwitchBox, s: u8) -> u8
@@ -138,14 +137,10 @@ fn position_for(p: BoxPlan, s: u8, z: u8) -> u8
 fn locked(v: Around, p: BoxPlan, x: SwitchBox) -> SwitchBox
     ensures { λ y. ⌜ y ≡ lockGiven v p x ⌝ }
 {
-    SwitchBox {
-        sensor: x.sensor,
-        position: position_for(p, v.front, v.next),
-        lock: v.number,
-        stem: x.stem,
-        left: x.left,
-        right: x.right,
-    }
+    let mut y = x;
+    y.position = position_for(p, v.front, v.next);
+    y.lock = v.number;
+    y
 }
 
 // The box after its yes.
@@ -162,13 +157,8 @@ pub fn granted(v: Around, p: BoxPlan, x: SwitchBox, q: Request) -> SwitchBox
 pub fn released(p: BoxPlan, x: SwitchBox, s: u8, z: u8) -> SwitchBox
     ensures { λ y. ⌜ y ≡ released p x s z ⌝ }
 {
-    let free = SwitchBox {
-        sensor: false,
-        position: x.position,
-        lock: 0,
-        stem: x.stem,
-        left: x.left,
-        right: x.right,
-    };
+    let mut free = x;
+    free.sensor = false;
+    free.lock = 0;
     set_holder(p, set_holder(p, free, s, 0), z, 0)
 }

@@ -140,29 +140,17 @@ fn recorded_after(b: u8, end: u8, before: bool) -> bool
 fn with_holding(v: Around, r: Train, q: Request) -> Train
     ensures { λ y. ⌜ y ≡ withHolding v r q ⌝ }
 {
-    let message = r.message;
+    let mut train = r;
     match q {
-        Request::Reserve(b) => Train {
-            direction: r.direction,
-            length: r.length,
-            place: r.place,
-            covered: r.covered,
-            near: recorded_after(b, v.nearEnd, r.near),
-            far: recorded_after(b, v.farEnd, r.far),
-            lock: r.lock,
-            message,
-        },
-        Request::Lock(_) => Train {
-            direction: r.direction,
-            length: r.length,
-            place: r.place,
-            covered: r.covered,
-            near: r.near,
-            far: r.far,
-            lock: true,
-            message,
-        },
+        Request::Reserve(b) => {
+            train.near = recorded_after(b, v.nearEnd, r.near);
+            train.far = recorded_after(b, v.farEnd, r.far);
+        }
+        Request::Lock(_) => {
+            train.lock = true;
+        }
     }
+    train
 }
 
 // The train after it has heard an answer: a yes is recorded, and the message is gone.

@@ -14,7 +14,7 @@ returns c =
     let read = c .before .before in
     let args = read .before .before .before .before .args in
     let refused = run-refused (args .file .now) (args .steps .now) (args .answers .now) _ (read .read .ensures) (c .if1 .taken) in
-    (ap (λ (o : Outcome). o .code) (refused .0), refused .1 .0)
+    (ap (λ (o : Outcome). o .code) (refused .outcome), refused .buffer)
 
 returns-2 : tie.Need-returns-2
 unfolding stepCount
@@ -25,7 +25,7 @@ returns-2 c =
     let short =
     run-short (args .file .now) (args .steps .now) (args .answers .now) _ (read .read .ensures) (counted .before .if1 .left)
     (omega (arith, c .if2 .taken, counted .count .ensures)) emptyLine refl in
-    (ap (λ (o : Outcome). o .code) (short .0), short .1 .0)
+    (ap (λ (o : Outcome). o .code) (short .outcome), short .buffer)
 
 called-requires : tie.Need-called-requires
 unfolding stepCount

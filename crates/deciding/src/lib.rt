@@ -59,19 +59,20 @@ pub fn concerned(kind: u8, v: Around, r: Train) -> u8
     }
 }
 
-// The kinds that are the train's alone: 1, 2 and 4. The box is handed through.
+// The kinds that are the train's alone, 1, 2 and 4; there is no other. The box is handed through.
 pub fn alone(kind: u8, at: u8, v: Around, r: Train, x: SwitchBox) -> Effect
     ensures { λ d. ⌜ d ≡ alone kind at v r x ⌝ }
 {
     match kind {
         1 => requests::send(v, r, x, Request::Reserve(at)),
         2 => requests::send(v, r, x, Request::Lock(at)),
-        _ => requests::hear(v, r, x),
+        4 => requests::hear(v, r, x),
+        _ => Effect::Refused(13),
     }
 }
 
-// A step that 13 and 14 do not stop, by its kind: of the train with this record and what stands around it, at the box that it
-// concerns.
+// A step by its kind: of the train with this record and what stands around it, at the box that it concerns. That kinds 3 to 6 have
+// no box byte is `form_code`'s affair.
 pub fn decide(kind: u8, at: u8, v: Around, r: Train, p: BoxPlan, x: SwitchBox) -> Effect
     ensures { λ d. ⌜ d ≡ effect kind at v r p x ⌝ }
 {

@@ -72,8 +72,8 @@ pub fn step(mut line: Line, kind: u8, train: u8, number: u8) -> Outcome
     let i = (train - 1) as usize;
     let r = trains[i];
     let v = sight::around(train, r, &line.routes, &a, &b, &kinds);
-    let at = deciding::concerned(kind, v, r);
-    if at == 0 {
+    let concerned = deciding::concerned(kind, v, r);
+    if concerned == 0 {
         let d = deciding::decide(kind, number, v, r, deciding::no_plan(), deciding::no_box());
         match d {
             Effect::Refused(code) => Outcome { code, line },
@@ -83,7 +83,7 @@ pub fn step(mut line: Line, kind: u8, train: u8, number: u8) -> Outcome
             }
         }
     } else {
-        let j = (at - 1) as usize;
+        let j = (concerned - 1) as usize;
         let d = deciding::decide(kind, number, v, r, plans[j], boxes[j]);
         match d {
             Effect::Refused(code) => Outcome { code, line },

@@ -7,26 +7,26 @@ use Rattle.rules.specs.declared.Line.{Line}
 use Rattle.rules.specs.Steps.{Step, step}
 use Rattle.rules.specs.Record.{recordFault, checkedStep}
 use Rattle.rules.specs.History.{lineAfter, events}
-use Rattle.rules.specs.Safety.{Sound}
+use Rattle.rules.specs.Safety.{StaysSound}
 
-sound-here : (l : Line) → Sound l → recordFault l ≡ false
+sound-here : (l : Line) → StaysSound l → recordFault l ≡ false
 unfolding lineAfter
 sound-here l h = h []
 
-sound-next : (l : Line) → Sound l → (s : Step) → Sound (step l s .line)
+sound-next : (l : Line) → StaysSound l → (s : Step) → StaysSound (step l s .line)
 unfolding lineAfter
 sound-next l h s steps = h (s ∷ steps)
 
-checked-step : (l : Line) → Sound l → (s : Step) → checkedStep l s ≡ step l s
+checked-step : (l : Line) → StaysSound l → (s : Step) → checkedStep l s ≡ step l s
 unfolding checkedStep
 checked-step l h s = rw (sound-here l h)
 
-pub checked-line : (l : Line) → Sound l → (steps : List Step) → lineAfter checkedStep l steps ≡ lineAfter step l steps
+pub checked-line : (l : Line) → StaysSound l → (steps : List Step) → lineAfter checkedStep l steps ≡ lineAfter step l steps
 unfolding lineAfter
 checked-line l h [] = refl
 checked-line l h (s ∷ rest) = rw (checked-step l h s) (checked-line (step l s .line) (sound-next l h s) rest)
 
-pub checked-events : (l : Line) → Sound l → (steps : List Step) → events checkedStep l steps ≡ events step l steps
+pub checked-events : (l : Line) → StaysSound l → (steps : List Step) → events checkedStep l steps ≡ events step l steps
 unfolding events
 checked-events l h [] = refl
 checked-events l h (s ∷ rest) = rw (checked-step l h s, checked-events (step l s .line) (sound-next l h s) rest)

@@ -63,7 +63,7 @@ module _ (l : Line) (sound : recordFault l ≡ false) (i : ℕ) (train : TrainOf
       cond-each There (eqb kind 5) _ _ (λ _ _. ahead-there) λ _.
       cond-each There (eqb kind 6) _ _ (λ _ _. passed-there) λ _ n. absurd (n refl)
 
-  -- A message without a box is none: it is answered 21.
+  -- Where the message has no box, kind 3 is refused with 21.
   nothing-sent : (v : Around) (p : BoxPlan) (x : SwitchBox) (g : Message) → trainAt l i .message ≡ g → messageBox g ≡ 0
       → boxAnswers v (trainAt l i) p x g ≡ Refused 21
   unfolding boxAnswers messageBox

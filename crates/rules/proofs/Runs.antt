@@ -14,7 +14,7 @@ use Rattle.rules.specs.Line.{startLine}
 use Rattle.rules.specs.Steps.{Step, step}
 use Rattle.rules.specs.Record.{checkedStep}
 use Rattle.rules.specs.History.{Call, events}
-use Rattle.rules.specs.Safety.{Sound}
+use Rattle.rules.specs.Safety.{StaysSound}
 use Rattle.rules.specs.Run.{wholeSteps, stepCount, answersOf, partialAnswer, answersFrom, runCode, run, answered, SafeRun}
 use Rattle.rules.proofs.Tests.{cond-alike, first-code-iff}
 use Rattle.rules.proofs.Demand3.{demand-3}
@@ -75,7 +75,7 @@ unfolding runCode
 run-accepted file steps buffer e = first-code-iff (fileCode file) _ .0 e .0
 
 -- On the way from the start line of an accepted file the record check finds nothing.
-pub start-sound : (file : List ℕ) → fileCode file ≡ 0 → Sound (startLine (decode file))
+pub start-sound : (file : List ℕ) → fileCode file ≡ 0 → StaysSound (startLine (decode file))
 start-sound file accepted steps = demand-3 file accepted steps .sound
 
 -- Runs with the record check before each step are those without it.

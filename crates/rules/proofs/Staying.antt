@@ -40,7 +40,8 @@ module _ (v : Around) (r : Train) (x : SwitchBox) where
   pub alone-stays : (kind box : ℕ) → Stays r (alone kind box v r x)
   unfolding alone
   alone-stays kind box =
-      either (eqb kind 1) (send-stays (Reserve box)) (either (eqb kind 2) (send-stays (Lock box)) (hear-stays (r .message)))
+      either (eqb kind 1) (send-stays (Reserve box))
+      (either (eqb kind 2) (send-stays (Lock box)) (either (eqb kind 4) (hear-stays (r .message)) refused))
 
   pub answer-stays : (p : BoxPlan) (g : Message) → Stays r (boxAnswers v r p x g)
   unfolding boxAnswers reply

@@ -104,7 +104,7 @@ pub data Does (l : Line) (s : Step) : Outcome → Type 0 where
   enters : Enters l s → Does l s (record { code = 0; line = afterEnter l (s .train) })
   clears : Clears l s → Does l s (record { code = 0; line = afterClear l (s .train) })
 
--- Code 23 is a box's answer: no row of a train has it.
+-- Code 23 is a box's answer: no row of a train has it, nor row Step.
 no-code : first [] ≢ 23
 no-code = rw first-none (omega arith)
 

@@ -140,7 +140,7 @@ module _ (track : Track) (trains : List TrainPlan) (routes : List ℕ) where
         right = startHolder b (p .right) j;
       }
 
--- The line at its start has all trains of its table.
+-- Box b at the start of a table's line, which has all its trains; and that line.
 unfoldable pub startBox : Table → ℕ → SwitchBox
 startBox t b = startBoxWith (trackOf t) (t .trains) (t .routes) (t .boxes) (t .k) b
 

@@ -11,6 +11,7 @@ use Rattle.rules.specs.Rows.{_if_, first}
 use Rattle.rules.specs.File.{fileCode, decode}
 use Rattle.rules.specs.Line.{startLine, emptyLine}
 use Rattle.rules.specs.Steps.{Step}
+use Rattle.rules.specs.Record.{checkedStep}
 use Rattle.rules.specs.History.{Call, Event, lineAfter, events}
 use Rattle.rules.specs.Safety.{reached, history, Safe}
 
@@ -65,3 +66,10 @@ pub record SafeRun (file steps : List ℕ) (after : Line) (buffer answered : Lis
   pub safe : Safe (decode file) (wholeSteps steps)
   -- So it was after each step on the way.
   pub throughout : (n : ℕ) → Safe (decode file) (take n (wholeSteps steps))
+
+-- What a run promises, with a buffer before and after it: the outcome and the buffer are those of calls that begin with the record
+-- check, one after the other, and demand 3 holds.
+pub record Ran (file steps before : List ℕ) (r : Outcome) (after : List ℕ) : Type 0 where
+  pub outcome : r ≡ run checkedStep file steps before
+  pub buffer : after ≡ answered checkedStep file steps before
+  pub safe : r .code ≡ 0 → SafeRun file steps (r .line) before after

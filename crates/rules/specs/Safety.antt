@@ -20,8 +20,8 @@ pub record TrainOf (t : Table) (i : ℕ) : Type 0 where
   pub high : i ≤ t .k
 
 -- The record check (27) finds nothing on the line and on any line that steps reach from it.
-abbrev pub Sound : Line → Type 0
-Sound l = (steps : List Step) → recordFault (lineAfter step l steps) ≡ false
+abbrev pub StaysSound : Line → Type 0
+StaysSound l = (steps : List Step) → recordFault (lineAfter step l steps) ≡ false
 
 -- The segment at place p of train i's route in the table.
 abbrev pub onRoute : Table → ℕ → ℕ → ℕ

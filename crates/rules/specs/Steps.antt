@@ -27,6 +27,7 @@ pub record Step : Type 0 where
   pub box : ℕ
 
 -- What the effect of a step of train i at box b means: its code, and the line as it was, or with the train and the box put back.
+-- Box 0 is none: nothing is put there.
 unfoldable pub apply : Line → ℕ → ℕ → Effect → Outcome
 apply l i b (Refused c) = record { code = c; line = l }
 apply l i b (Changed c r x) = record { code = c; line = putBox (putTrain l i r) b x }
@@ -62,8 +63,8 @@ withPlace r place covered =
       message = r .message;
     }
 
-abbrev pub withHoldings : Train → Bool → Bool → Bool → Train
-withHoldings r near far lock =
+abbrev pub withRecords : Train → Bool → Bool → Bool → Train
+withRecords r near far lock =
     record {
       direction = r .direction;
       length = r .length;
@@ -138,19 +139,19 @@ lockGiven v p x =
       right = x .right;
     }
 
--- The box after its yes. A reservation: the holder of next is set.
+-- The box after its yes. A reservation: the holder of next is set. A lock: it is given to the train.
 unfoldable pub granted : Around → BoxPlan → SwitchBox → Request → SwitchBox
 granted v p x (Reserve b) = setHolder p x (v .next) (v .number)
 granted v p x (Lock b) = lockGiven v p x
 
 -- The train after it has recorded what it asked for.
 unfoldable pub withHolding : Around → Train → Request → Train
-withHolding v r (Reserve b) = withHoldings r (eqb b (v .nearEnd) || r .near) (eqb b (v .farEnd) || r .far) (r .lock)
-withHolding v r (Lock b) = withHoldings r (r .near) (r .far) true
+withHolding v r (Reserve b) = withRecords r (eqb b (v .nearEnd) || r .near) (eqb b (v .farEnd) || r .far) (r .lock)
+withHolding v r (Lock b) = withRecords r (r .near) (r .far) true
 
 -- The train after it has entered next: nothing is recorded of the segment that is next now.
 unfoldable pub entered : Train → Train
-entered r = withHoldings (withPlace r (r .place + 1) (r .covered + 1)) false false false
+entered r = withRecords (withPlace r (r .place + 1) (r .covered + 1)) false false false
 
 -- The box that a train begins to cross.
 unfoldable pub sensed : SwitchBox → SwitchBox
@@ -191,7 +192,7 @@ unfoldable pub unless : ℕ → Effect → Effect
 unless c e = cond (eqb c 0) e (Refused c)
 
 -- The kinds of steps, each by the train's record r, what stands around it, v, and the plan p and the record x of the box that the
--- step concerns. Kinds 1 and 2: the message is sent.
+-- step concerns. Kinds 1, 2 and 4 concern none, and hand x through. Kinds 1 and 2: the message is sent.
 unfoldable pub send : Around → Train → SwitchBox → Request → Effect
 send v r x q = unless (first (requestRows v r q)) (Changed 0 (withMessage r (Sent q)) x)
 
@@ -236,18 +237,18 @@ formRows kind box = 13 if not (formed kind box) ∷ []
 unfoldable pub stepRows : ℕ → Step → List Row
 stepRows k s = formRows (s .kind) (s .box) ++ (14 if outside k (s .train) ∷ [])
 
--- The box that a step concerns: the box of the message, the box ahead, the box passed; 0 where it is the train's alone.
+-- The box that a step concerns: the box of the message, the box ahead, the box passed; 0 where there is none.
 unfoldable pub concernedBox : ℕ → Around → Train → ℕ
 concernedBox kind v r =
     cond (eqb kind 3) (messageBox (r .message)) (cond (eqb kind 5) (v .ahead) (cond (eqb kind 6) (v .passed) 0))
 
--- The kinds that are the train's alone: 1, 2 and 4.
+-- The kinds that are the train's alone, 1, 2 and 4; there is no other.
 unfoldable pub alone : ℕ → ℕ → Around → Train → SwitchBox → Effect
 alone kind box v r x =
     cond (eqb kind 1) (send v r x (Reserve box))
-    (cond (eqb kind 2) (send v r x (Lock box)) (trainHears v r x (r .message)))
+    (cond (eqb kind 2) (send v r x (Lock box)) (cond (eqb kind 4) (trainHears v r x (r .message)) (Refused 13)))
 
--- What a step does that row Step does not stop, by its kind.
+-- What a step does, by its kind. That kinds 3 to 6 have no box byte is row Step's affair.
 unfoldable pub effect : ℕ → ℕ → Around → Train → BoxPlan → SwitchBox → Effect
 effect kind box v r p x =
     cond (eqb kind 3) (boxAnswers v r p x (r .message))

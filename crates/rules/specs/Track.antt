@@ -37,9 +37,9 @@ routeAt routes zero p = 0
 routeAt routes (suc i) zero = 0
 routeAt routes (suc i) (suc p) = cond (ltb p 64) (getD routes (64 * i + p) 0) 0
 
--- The boxes at the A end and at the B end of each segment, by its number. The conditions on a table, what stands around a train
--- and the record check are stated over these two functions, so that they hold for a table and for any other form in which a
--- program keeps the ends.
+-- The boxes at the A end and at the B end of each segment, by its number. The conditions on a table, the start of a line, what
+-- stands around a train and the record check are stated over these two functions, so that they hold for a table and for any other
+-- form in which a program keeps the ends.
 pub record Track : Type 0 where
   pub endA : ℕ → ℕ
   pub endB : ℕ → ℕ

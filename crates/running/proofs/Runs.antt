@@ -14,9 +14,8 @@ use Rattle.rules.specs.Line.{startLine, emptyLine, read}
 use Rattle.rules.specs.Steps.{step}
 use Rattle.rules.specs.Record.{checkedStep}
 use Rattle.rules.specs.History.{lineAfter}
-use Rattle.rules.specs.Safety.{Sound}
-use Rattle.rules.specs.Run.{wholeSteps, stepCount, answersFrom, runCode, run, answered}
-use Rattle.running.specs.Loop.{Ran}
+use Rattle.rules.specs.Safety.{StaysSound}
+use Rattle.rules.specs.Run.{wholeSteps, stepCount, answersFrom, runCode, run, answered, Ran}
 use Rattle.rules.proofs.Runs.{start-sound, checked-run, checked-answers, safe-run}
 
 -- What the reader gives: the start line of an accepted file, and the empty record for a refused one.
@@ -94,7 +93,7 @@ run-called file steps buffer o is zero room after after-is =
     (rw taken refl, rw (taken, after-is, start) refl)
 
 -- On the way from the line of an accepted file the record check finds nothing.
-pub read-sound : (file : List ℕ) (o : Outcome) → o ≡ read file → o .code ≡ 0 → Sound (o .line)
+pub read-sound : (file : List ℕ) (o : Outcome) → o ≡ read file → o .code ≡ 0 → StaysSound (o .line)
 read-sound file o is zero =
     let code : fileCode file ≡ 0 = accepted-file file o is zero in
     let start : o .line ≡ startLine (decode file) = ap (λ (x : Outcome). x .line) (is ∙ read-accepted file code) in

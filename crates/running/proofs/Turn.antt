@@ -22,7 +22,7 @@ use Rattle.rules.specs.Line.{noBox, noTrain, aroundOn, aroundTrain, around, box
 use Rattle.rules.specs.Steps.{Step, apply, enter, clear, boxAnswers, alone, formed, formRows, concernedBox, effect, step}
 use Rattle.rules.specs.Record.{recordFault}
 use Rattle.rules.specs.History.{lineAfter}
-use Rattle.rules.specs.Safety.{TrainOf, Sound}
+use Rattle.rules.specs.Safety.{TrainOf, StaysSound}
 use Rattle.rules.specs.Run.{stepCount}
 use Rattle.rules.proofs.Tests.{outside-false-iff}
 use Rattle.rules.proofs.Accepted.{BoxOf}
@@ -158,7 +158,7 @@ module _ (l : Line) (s : Step) (i : ℕ) (sound : recordFault l ≡ false) (w : 
 pub record Between (a b kinds routes : List ℕ) (t : Table) (l₀ : Line) (bytes before : List ℕ) (boxes : List SwitchBox) (trains : List Train) (seen : List Around)
     (answers : List ℕ) (n : ℕ) : Type 0 where
   pub shown : aroundIn a b kinds routes ≡ aroundTrain t routes
-  pub sound : Sound (standing t boxes trains routes)
+  pub sound : StaysSound (standing t boxes trains routes)
   pub places : length trains ≡ 16
   pub looked : Seen (aroundTrain t routes) trains seen 16
   pub room : stepCount bytes ≤ length answers

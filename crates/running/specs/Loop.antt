@@ -9,11 +9,8 @@ use Rattle.rules.specs.declared.SwitchBox.{SwitchBox}
 use Rattle.rules.specs.declared.Train.{Train}
 use Rattle.rules.specs.declared.Line.{Line}
 use Rattle.rules.specs.declared.Around.{Around}
-use Rattle.rules.specs.declared.Outcome.{Outcome}
 use Rattle.rules.specs.Track.{trackOf, farBox}
 use Rattle.rules.specs.Line.{noTrain}
-use Rattle.rules.specs.Record.{checkedStep}
-use Rattle.rules.specs.Run.{run, answered, SafeRun}
 use Rattle.layout.specs.Column.{column}
 use Rattle.traincomputer.specs.Sight.{kindOf}
 
@@ -47,9 +44,3 @@ noAround =
 pub record Seen (around : ℕ → Train → Around) (trains : List Train) (seen : List Around) (n : ℕ) : Type 0 where
   pub size : length seen ≡ 16
   pub is : (i : ℕ) → i < n → getD seen i noAround ≡ around (suc i) (getD trains i noTrain)
-
--- What a run of a file and steps promises, with a buffer before and after it.
-pub record Ran (file steps before : List ℕ) (r : Outcome) (after : List ℕ) : Type 0 where
-  pub outcome : r ≡ run checkedStep file steps before
-  pub buffer : after ≡ answered checkedStep file steps before
-  pub safe : r .code ≡ 0 → SafeRun file steps (r .line) before after

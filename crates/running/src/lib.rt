@@ -6,7 +6,7 @@ use rules::Outcome;
 use traincomputer::sight;
 ghost use mathlib.Core.Path.{_≡_};
 ghost use Prim.Native.Nat.{_+_, _/_};
-ghost use Rattle.running.specs.Loop.{Ran};
+ghost use Rattle.rules.specs.Run.{Ran};
 
 // How many steps so many bytes are, a last one of one or two bytes among them.
 pub fn count(bytes: usize) -> usize

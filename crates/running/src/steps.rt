@@ -14,7 +14,7 @@ ghost use mathlib.Core.List.{_++_};
 ghost use lib.ListN.{length, drop};
 ghost use Rattle.rules.specs.Steps.{step};
 ghost use Rattle.rules.specs.History.{lineAfter};
-ghost use Rattle.rules.specs.Safety.{Sound};
+ghost use Rattle.rules.specs.Safety.{StaysSound};
 ghost use Rattle.rules.specs.Run.{wholeSteps, stepCount, answersFrom};
 ghost use Rattle.traincomputer.specs.Sight.{aroundIn};
 ghost use Rattle.running.specs.Loop.{Columns, standing, Seen};
@@ -77,7 +77,8 @@ fn views(
 }
 
 // Takes all steps from a line on, with these boxes, trains and routes, and puts their codes into the buffer. What stands around each
-// train is kept, and made anew for the train that has moved. The columns are those of the table.
+// train is kept, and made anew for the train that has moved. The columns are those of the table. 27 finds nothing on the line, now and
+// after any steps, so that every box that a step concerns is there. Records are copied in the arm that uses them.
 pub(crate) fn advance(
     table: Table,
     mut boxes: [SwitchBox; 96],
@@ -91,7 +92,7 @@ pub(crate) fn advance(
 ) -> Moved
     requires { ⌜ stepCount (now steps) ≤ length (now answers) ⌝ }
     requires { ⌜ Columns table (now a) (now b) (now kinds) ⌝ }
-    requires { ⌜ Sound (standing table boxes trains (now routes)) ⌝ }
+    requires { ⌜ StaysSound (standing table boxes trains (now routes)) ⌝ }
     ensures { λ r. ⌜ standing table (r .boxes) (r .trains) (now (routes .entry)) ≡ lineAfter step (standing table boxes trains (now (routes .entry))) (wholeSteps (now (steps .entry))) ⌝ }
     ensures { λ r. ⌜ now (answers .exit) ≡ answersFrom step (standing table boxes trains (now (routes .entry))) (now (steps .entry)) ++ drop (stepCount (now (steps .entry))) (now (answers .entry)) ⌝ }
 {

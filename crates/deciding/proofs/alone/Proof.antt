@@ -15,9 +15,14 @@ returns-2 c = rw (c .before .match .keys2) (c .send2 .ensures)
 
 returns-3 : tie.Need-returns-3
 unfolding alone
-returns-3 c =
-    let others = c .before .match .rest in
-    rw (ne-eqb _ 1 (others .0 .1), ne-eqb _ 2 (others .1)) (c .hear .ensures)
+returns-3 c = rw (c .before .match .keys3) (c .hear .ensures)
+
+returns-4 : tie.Need-returns-4
+unfolding alone
+returns-4 c =
+    let others = c .match .rest in
+    rw (ne-eqb _ 1 (others .0 .0 .1), ne-eqb _ 2 (others .0 .1), ne-eqb _ 4 (others .1))
 
 pub alone-spec : {M : Type 1} → statement M
-alone-spec = tie.close (tie.spec (λ c κs. search needs) (λ c κs. search needs) (λ c κs. search needs) returns returns-2 returns-3)
+alone-spec =
+    tie.close (tie.spec (λ c κs. search needs) (λ c κs. search needs) (λ c κs. search needs) returns returns-2 returns-3 returns-4)

@@ -1,5 +1,5 @@
 //! Where the proved libraries are: those of this commit, and in the folder OLD_LIBRARY, if it is set, those of another one
-//! (tools/old-library), which are then timed too. New ones are linked anew.
+//! (tools/build-benchmark), which are then timed too. New ones are linked anew.
 
 use std::env;
 

@@ -46,6 +46,7 @@ macro_rules! proved {
             // SAFETY of all: a function reads the slices that it is given and writes within the one that is lent to be
             // written, which is no part of the others; it asks nothing of its arguments.
             let calls: [Call; 4] = [
+                // The proved reader answers a sample of the line: its code is looked at where the same file is run.
                 |file, _, _| {
                     black_box(unsafe { read(file.as_ptr(), file.len(), 5) });
                     0

@@ -37,7 +37,7 @@ fn print_times() {
     }
     println!();
     println!("{:<32}{:>6}   {:<41}   {:<41}", "steps, a step", "", "run", "checked step");
-    println!("{:<32}{:>6}   {pairs}   {pairs}", "table", "taken");
+    println!("{:<32}{:>6}   {pairs}   {pairs}", "table", "accept");
     for (case, times) in &measured {
         println!("{:<32}{:>5.0}%   {}   {}", case.name, case.accepted(), pair(times, RUN), pair(times, CHECKED));
     }

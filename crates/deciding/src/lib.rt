@@ -1,6 +1,6 @@
 // What a step does to its train and to the one box that it concerns, by 01's rows of codes: `traincomputer` has what the train's
-// computer decides, `switchbox` what the box does. All is passed by value: the engine copies the train, what stands around it and
-// the box out of the line, has the step decided here, and puts back what it changed.
+// computer decides, `switchbox` what the box does. All is passed by value: `running` and `engine` copy the train, what stands around it and
+// the box out of the line, have the step decided here, and put back what it changed.
 pub mod moves;
 pub mod requests;
 
@@ -11,8 +11,7 @@ use rules::Request;
 use rules::SwitchBox;
 use rules::Train;
 ghost use mathlib.Core.Path.{_≡_};
-ghost use mathlib.Core.Bool.{not};
-ghost use Rattle.rules.specs.Rows.{first, outside};
+ghost use Rattle.rules.specs.Rows.{first};
 ghost use Rattle.rules.specs.Track.{noBoxPlan};
 ghost use Rattle.rules.specs.Line.{noBox};
 ghost use Rattle.rules.specs.Steps.{formRows, concernedBox, alone, effect};
@@ -31,19 +30,6 @@ pub fn form_code(kind: u8, at: u8) -> u8
         }
         _ => 13,
     }
-}
-
-// There is a train with this number on a line of k trains; where there is none, the code is 14.
-pub fn known(train: u8, k: u8) -> bool
-    ensures { λ r. ⌜ r ≡ not (outside k train) ⌝ }
-{
-    if train == 0 {
-        return false;
-    }
-    if train > k {
-        return false;
-    }
-    true
 }
 
 // The box that a step concerns: for kind 3 the box of the message, for 5 the box ahead, for 6 the box passed; else 0.

@@ -5,7 +5,7 @@ use mathlib.Core.Logic.{_≢_}
 use mathlib.Core.Bool.{Bool, true, false, not, _||_}
 use mathlib.Core.List.{List}
 use native.Mathlib.Decide.{ℕ-discrete}
-use borrow.Author.Tests.{eq-eqb, ne-eqb, le-ltb, not-true, not-false}
+use borrow.Author.Tests.{eq-eqb, ne-eqb, le-ltb}
 use lib.Dec.{eqb, ltb}
 use lib.ListN.{length, getD, set}
 use Rattle.rules.specs.declared.SwitchBox.{SwitchBox}
@@ -102,10 +102,10 @@ module _ {l : Line} {a b kinds : List ℕ} {c : ℕ} (h : Passed l a b kinds c) 
   pub single-unformed : (s : Step) (form : ℕ) → form ≡ first (formRows (s .kind) (s .box)) → form ≢ 0 → record { code = form; line = l } ≡ checkedStep l s
   single-unformed s form e some = taken-as _ s (step-unformed l s form e some)
 
-  pub single-unknown : (s : Step) (form : ℕ) → form ≡ first (formRows (s .kind) (s .box)) → form ≡ 0 → (known : Bool) → known ≡ not (outside (l .table .k) (s .train))
-      → not known ≡ true → record { code = 14; line = l } ≡ checkedStep l s
-  single-unknown s form e none known known-is unknown =
-      taken-as _ s (step-unknown l s (form-row-iff _ _ .0 (sym e ∙ none)) (not-false _ (sym known-is ∙ not-true known unknown)))
+  pub single-unknown : (s : Step) (form : ℕ) → form ≡ first (formRows (s .kind) (s .box)) → form ≡ 0 → (out : Bool) → out ≡ outside (l .table .k) (s .train)
+      → out ≡ true → record { code = 14; line = l } ≡ checkedStep l s
+  single-unknown s form e none out out-is unknown =
+      taken-as _ s (step-unknown l s (form-row-iff _ _ .0 (sym e ∙ none)) (sym out-is ∙ unknown))
 
   -- What stands around the train at index i, as looked up.
   pub single-viewed : {s : Step} {i : ℕ} → Taken (l .table) s i → (v : Around)

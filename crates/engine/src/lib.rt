@@ -66,7 +66,7 @@ pub fn step(mut line: Line, kind: u8, train: u8, number: u8) -> Outcome
     if form != 0 {
         return Outcome { code: form, line };
     }
-    if !deciding::known(train, line.table.k) {
+    if network::outside(line.table.k, train) {
         return Outcome { code: 14, line };
     }
     let i = (train - 1) as usize;

@@ -1,6 +1,6 @@
 -- Kinds 1 to 4 leave a train where it stands.
 use Prim.Native.Nat.{ℕ}
-use mathlib.Core.Path.{_≡_, refl}
+use mathlib.Core.Path.{_≡_}
 use mathlib.Core.Bool.{Bool, true, false, cond}
 use lib.Dec.{eqb}
 use Rattle.rules.specs.declared.BoxPlan.{BoxPlan}

@@ -19,7 +19,7 @@ use Rattle.rules.specs.declared.Line.{Line}
 use Rattle.rules.specs.declared.Effect.{Effect}
 use Rattle.rules.specs.declared.Effect.the-variants.{Refused, Changed}
 use Rattle.rules.specs.declared.Outcome.{Outcome}
-use Rattle.rules.specs.Rows.{Row, _if_, first, outside}
+use Rattle.rules.specs.Rows.{Row, _if_, first}
 use Rattle.rules.specs.Track.{planAt}
 use Rattle.rules.specs.declared.Around.{Around}
 use Rattle.rules.specs.Line.{around, boxAt, trainAt, putTrain, requestKind, requestBox, messageBox}

@@ -1,13 +1,13 @@
--- One turn of the loop over steps: what the code looks up and has decided is the step of `rules`.
+-- A step as a program takes it, in the loop and by itself: what it looks up and has decided is the step of `rules`. Then one turn of
+-- the loop over steps.
 use Prim.Native.Nat.{ℕ, suc, _+_, _-_, _/_, _≤_, _<_}
 use mathlib.Core.Path.{_≡_, refl, sym, _∙_, ap}
 use mathlib.Core.Logic.{_≢_}
-use mathlib.Core.Bool.{Bool, true, false, cond, not}
+use mathlib.Core.Bool.{Bool, true, false}
 use mathlib.Core.List.{List, [], _∷_}
 use native.Mathlib.Omega.{arith}
-use borrow.Author.Tests.{ne-eqb, not-true, not-false}
+use borrow.Author.Tests.{ne-eqb}
 use lib.ListN.{length, getD, set, length-set}
-use Rattle.rules.specs.declared.BoxPlan.{BoxPlan}
 use Rattle.rules.specs.declared.Table.{Table}
 use Rattle.rules.specs.declared.SwitchBox.{SwitchBox}
 use Rattle.rules.specs.declared.Train.{Train}
@@ -56,14 +56,10 @@ pub record Taken (t : Table) (s : Step) (i : ℕ) : Type 0 where
   pub index : i ≡ s .train - 1
 
 -- So where the tests of the program let it pass.
-pub takes : (t : Table) (s : Step) (c i : ℕ) (known : Bool) → c ≡ first (formRows (s .kind) (s .box)) → c ≡ 0 → known ≡ not (outside (t .k) (s .train))
-    → not known ≡ false → i ≡ s .train - 1 → Taken t s i
-takes t s c i known c-is passes known-is there i-is =
-    record {
-      form = form-row-iff _ _ .0 (sym c-is ∙ passes);
-      inside = not-true _ (sym known-is ∙ not-false known there);
-      index = i-is;
-    }
+pub takes : (t : Table) (s : Step) (c i : ℕ) (out : Bool) → c ≡ first (formRows (s .kind) (s .box)) → c ≡ 0
+    → out ≡ outside (t .k) (s .train) → out ≡ false → i ≡ s .train - 1 → Taken t s i
+takes t s c i out c-is passes out-is there i-is =
+    record { form = form-row-iff _ _ .0 (sym c-is ∙ passes); inside = sym out-is ∙ there; index = i-is }
 
 pub taken-at : {t : Table} {s : Step} {i j : ℕ} → Taken t s j → i ≡ s .train - 1 → Taken t s i
 taken-at w i-is = record { form = w .form; inside = w .inside; index = i-is }
@@ -81,7 +77,7 @@ module _ (l : Line) (s : Step) (i : ℕ) (sound : recordFault l ≡ false) (w : 
   train-there : TrainOf (l .table) (s .train)
   train-there = let number = outside-false-iff _ _ .0 (w .inside) in omega arith
 
-  pub numbered : s .train ≡ suc i
+  numbered : s .train ≡ suc i
   numbered = let low = train-there .low in omega (arith, w .index)
 
   pub train-within : (1 ≤ s .train) × (s .train ≤ 16)
@@ -108,50 +104,12 @@ module _ (l : Line) (s : Step) (i : ℕ) (sound : recordFault l ≡ false) (w : 
         record { is = rw (← numbered, same, box) (step-taken l s (w .form) (w .inside)) }
 
     -- There is such a box.
-    within : {e : ℕ} → BoxOf (l .table .m) e → (1 ≤ e) × (e ≤ 96)
+    pub within : {e : ℕ} → BoxOf (l .table .m) e → (1 ≤ e) × (e ≤ 96)
     within there = (there .low, box-room l sound there)
-
-    pub ahead-within : (1 ≤ v .ahead) × (v .ahead ≤ 96)
-    ahead-within = rw v-is (within (ahead-there l sound _ train-there))
-
-    pub passed-within : (1 ≤ v .passed) × (v .passed ≤ 96)
-    passed-within = rw v-is (within (passed-there l sound _ train-there))
-
-    pub asked-within : (e : ℕ) → e ≡ messageBox (recordHere .message) → e ≢ 0 → (1 ≤ e) × (e ≤ 96)
-    asked-within e e-is some =
-        rw (e-is, train-read) (within (asked-there l sound _ train-there (rw (e-is, train-read) at some)))
 
     pub concerned-within : (e : ℕ) → e ≡ concernedBox (s .kind) v recordHere → e ≢ 0 → (1 ≤ e) × (e ≤ 96)
     concerned-within e e-is some =
         rw (e-is, v-is, train-read) (within (concerned-there l sound _ train-there (s .kind) (rw (e-is, v-is, train-read) at some)))
-
-    -- By the kind.
-    pub turned-answer : (j : ℕ) → s .kind ≡ 3 → messageBox (recordHere .message) ≡ suc j → (d : Effect)
-        → d ≡ boxAnswers v recordHere (getD (l .table .boxes) j noBoxPlan) (getD (l .boxes) j noBox) (recordHere .message) → Turned l s i (suc j) d
-    unfolding concernedBox effect planAt boxAt nth
-    turned-answer j kind box d e = turned (suc j) d (rw (kind, box)) (rw kind e)
-
-    pub turned-unasked : s .kind ≡ 3 → messageBox (recordHere .message) ≡ 0 → Turned l s i 0 (Refused 21)
-    unfolding concernedBox effect
-    turned-unasked kind box =
-        turned 0 (Refused 21) (rw (kind, box))
-        (rw (kind, train-read) (unasked l sound _ train-there v (planAt (l .table) 0) (boxAt l 0) (rw train-read at box)))
-
-    pub turned-enter : (j : ℕ) → s .kind ≡ 5 → v .ahead ≡ suc j → (d : Effect)
-        → d ≡ enter v recordHere (getD (l .boxes) j noBox) → Turned l s i (suc j) d
-    unfolding concernedBox effect boxAt nth
-    turned-enter j kind box d e = turned (suc j) d (rw (kind, box)) (rw kind e)
-
-    pub turned-clear : (j : ℕ) → s .kind ≡ 6 → v .passed ≡ suc j → (d : Effect)
-        → d ≡ clear v recordHere (getD (l .table .boxes) j noBoxPlan) (getD (l .boxes) j noBox) → Turned l s i (suc j) d
-    unfolding concernedBox effect planAt boxAt nth
-    turned-clear j kind box d e = turned (suc j) d (rw (kind, box)) (rw kind e)
-
-    pub turned-alone : s .kind ≢ 3 → s .kind ≢ 5 → s .kind ≢ 6 → (d : Effect)
-        → d ≡ alone (s .kind) (s .box) v recordHere noBox → Turned l s i 0 d
-    unfolding concernedBox effect boxAt nth
-    turned-alone three five six d e =
-        turned 0 d (rw (ne-eqb _ 3 three, ne-eqb _ 5 five, ne-eqb _ 6 six)) (rw (ne-eqb _ 3 three, ne-eqb _ 5 five, ne-eqb _ 6 six) e)
 
 -- What holds between two turns: the line is sound, there is room for all answers, what stands around each train is kept, and n steps
 -- are taken.
@@ -171,6 +129,10 @@ module _ {a b kinds routes : List ℕ} {t : Table} {l₀ : Line} {bytes before :
 
   abbrev taken : Step
   taken = stepAt bytes n
+
+  -- What holds after the turn, with code c.
+  abbrev Next : List SwitchBox → List Train → List Around → ℕ → Type 0
+  Next boxes′ trains′ seen′ c = Between a b kinds routes t l₀ bytes before boxes′ trains′ seen′ (set answers n c) (n + 1)
 
   pub sound-here : recordFault here ≡ false
   unfolding lineAfter
@@ -193,36 +155,94 @@ module _ {a b kinds routes : List ℕ} {t : Table} {l₀ : Line} {bytes before :
       }
 
   turn-same : (c : ℕ) → record { code = c; line = here } ≡ step here taken
-      → Between a b kinds routes t l₀ bytes before boxes trains seen (set answers n c) (n + 1)
+      → Next boxes trains seen c
   turn-same c e = turn-to c boxes trains seen (h .places) (h .looked) e
 
   -- 13, and 14.
   pub turn-unformed : (c : ℕ) → c ≡ first (formRows (taken .kind) (taken .box)) → c ≢ 0
-      → Between a b kinds routes t l₀ bytes before boxes trains seen (set answers n c) (n + 1)
+      → Next boxes trains seen c
   turn-unformed c e some = turn-same c (step-unformed here taken c e some)
 
-  pub turn-unknown : (c : ℕ) → c ≡ first (formRows (taken .kind) (taken .box)) → c ≡ 0 → (known : Bool) → known ≡ not (outside (t .k) (taken .train)) → not known ≡ true
-      → Between a b kinds routes t l₀ bytes before boxes trains seen (set answers n 14) (n + 1)
-  turn-unknown c c-is passes known known-is unknown =
-      turn-same 14 (step-unknown here taken (form-row-iff _ _ .0 (sym c-is ∙ passes)) (not-false _ (sym known-is ∙ not-true known unknown)))
+  pub turn-unknown : (c : ℕ) → c ≡ first (formRows (taken .kind) (taken .box)) → c ≡ 0
+      → (out : Bool) → out ≡ outside (t .k) (taken .train) → out ≡ true → Next boxes trains seen 14
+  turn-unknown c c-is passes out out-is unknown =
+      turn-same 14 (step-unknown here taken (form-row-iff _ _ .0 (sym c-is ∙ passes)) (sym out-is ∙ unknown))
 
   -- A step that these do not stop.
   module _ (i : ℕ) (w : Taken t taken i) where
-    pub index-low : i < 16
+    index-low : i < 16
     index-low =
         let (low, high) = train-within here taken i sound-here w in
         omega (arith, w .index)
 
-    pub viewed : getD seen i noAround ≡ around here (taken .train)
+    there : TrainOf t (taken .train)
+    there = train-there here taken i sound-here w
+
+    abbrev viewHere : Around
+    viewHere = getD seen i noAround
+
+    viewed : viewHere ≡ around here (taken .train)
     unfolding around trainAt nth
     viewed = rw (numbered here taken i sound-here w) (h .looked .is i index-low)
 
     abbrev trainHere : Train
     trainHere = getD trains i noTrain
 
+    -- The box ahead, the box passed and the box of a message are there.
+    pub ahead-within : (1 ≤ viewHere .ahead) × (viewHere .ahead ≤ 96)
+    ahead-within = rw viewed (within here taken i sound-here w viewHere viewed (ahead-there here sound-here _ there))
+
+    pub passed-within : (1 ≤ viewHere .passed) × (viewHere .passed ≤ 96)
+    passed-within = rw viewed (within here taken i sound-here w viewHere viewed (passed-there here sound-here _ there))
+
+    pub asked-within : (e : ℕ) → e ≡ messageBox (trainHere .message) → e ≢ 0 → (1 ≤ e) × (e ≤ 96)
+    asked-within e e-is some =
+        let read = train-read here taken i sound-here w in
+        rw (e-is, read) (within here taken i sound-here w viewHere viewed (asked-there here sound-here _ there (rw (e-is, read) at some)))
+
+    -- What is decided is the step, by the kind.
+    decides : (e : ℕ) (d : Effect) → e ≡ concernedBox (taken .kind) viewHere trainHere
+        → d ≡ effect (taken .kind) (taken .box) viewHere trainHere (planAt t e) (boxAt here e) → Turned here taken i e d
+    decides = turned here taken i sound-here w viewHere viewed
+
+    pub turned-answer : (e j : ℕ) → taken .kind ≡ 3 → e ≡ messageBox (trainHere .message) → e ≢ 0 → j ≡ e - 1 → (d : Effect)
+        → d ≡ boxAnswers viewHere trainHere (getD (t .boxes) j noBoxPlan) (getD boxes j noBox) (trainHere .message) → Turned here taken i (suc j) d
+    unfolding concernedBox effect planAt boxAt nth
+    turned-answer e j kind e-is some j-is d d-is =
+        let box : messageBox (trainHere .message) ≡ suc j = sym e-is ∙ one-more j-is (asked-within e e-is some .0) in
+        decides (suc j) d (rw (kind, box)) (rw kind d-is)
+
+    pub turned-unasked : (e : ℕ) → taken .kind ≡ 3 → e ≡ messageBox (trainHere .message) → e ≡ 0 → Turned here taken i 0 (Refused 21)
+    unfolding concernedBox effect
+    turned-unasked e kind e-is none =
+        let read = train-read here taken i sound-here w in
+        let box : messageBox (trainHere .message) ≡ 0 = sym e-is ∙ none in
+        decides 0 (Refused 21) (rw (kind, box))
+        (rw (kind, read) (unasked here sound-here _ there viewHere (planAt t 0) (boxAt here 0) (rw read at box)))
+
+    pub turned-enter : (j : ℕ) → taken .kind ≡ 5 → j ≡ viewHere .ahead - 1 → (d : Effect)
+        → d ≡ enter viewHere trainHere (getD boxes j noBox) → Turned here taken i (suc j) d
+    unfolding concernedBox effect boxAt nth
+    turned-enter j kind j-is d d-is =
+        let box : viewHere .ahead ≡ suc j = one-more j-is (ahead-within .0) in
+        decides (suc j) d (rw (kind, box)) (rw kind d-is)
+
+    pub turned-clear : (j : ℕ) → taken .kind ≡ 6 → j ≡ viewHere .passed - 1 → (d : Effect)
+        → d ≡ clear viewHere trainHere (getD (t .boxes) j noBoxPlan) (getD boxes j noBox) → Turned here taken i (suc j) d
+    unfolding concernedBox effect planAt boxAt nth
+    turned-clear j kind j-is d d-is =
+        let box : viewHere .passed ≡ suc j = one-more j-is (passed-within .0) in
+        decides (suc j) d (rw (kind, box)) (rw kind d-is)
+
+    pub turned-alone : taken .kind ≢ 3 → taken .kind ≢ 5 → taken .kind ≢ 6 → (d : Effect)
+        → d ≡ alone (taken .kind) (taken .box) viewHere trainHere noBox → Turned here taken i 0 d
+    unfolding concernedBox effect boxAt nth
+    turned-alone three five six d e =
+        decides 0 d (rw (ne-eqb _ 3 three, ne-eqb _ 5 five, ne-eqb _ 6 six)) (rw (ne-eqb _ 3 three, ne-eqb _ 5 five, ne-eqb _ 6 six) e)
+
     -- The ends of a turn: a refused step, a step of kinds 1 to 4, which leaves what stands around the train, and a move.
     pub turn-refused : {e c : ℕ} {d : Effect} → Turned here taken i e d → d ≡ Refused c
-        → Between a b kinds routes t l₀ bytes before boxes trains seen (set answers n c) (n + 1)
+        → Next boxes trains seen c
     unfolding apply
     turn-refused z e = turn-same _ (rw e at (z .is))
 
@@ -233,18 +253,18 @@ module _ {a b kinds routes : List ℕ} {t : Table} {l₀ : Line} {bytes before :
     stays s e = seen-stays (h .looked) (h .places) i index-low _ (around-alike t routes (suc i) (stays-alike s e))
 
     pub turn-answered : {j c : ℕ} {d : Effect} {r : Train} {x : SwitchBox} → Turned here taken i (suc j) d → d ≡ Changed c r x → Stays trainHere d
-        → Between a b kinds routes t l₀ bytes before (set boxes j x) (set trains i r) seen (set answers n c) (n + 1)
+        → Next (set boxes j x) (set trains i r) seen c
     unfolding apply putTrain putBox setNth
     turn-answered z e s = turn-to _ _ _ _ (changed-places _) (stays s e) (rw e at (z .is))
 
     pub turn-alone : {c : ℕ} {d : Effect} {r : Train} {x : SwitchBox} → Turned here taken i 0 d → d ≡ Changed c r x → Stays trainHere d
-        → Between a b kinds routes t l₀ bytes before boxes (set trains i r) seen (set answers n c) (n + 1)
+        → Next boxes (set trains i r) seen c
     unfolding apply putTrain putBox setNth
     turn-alone z e s = turn-to _ _ _ _ (changed-places _) (stays s e) (rw e at (z .is))
 
     pub turn-moved : {j c : ℕ} {d : Effect} {r : Train} {x : SwitchBox} → Turned here taken i (suc j) d → d ≡ Changed c r x
         → (v : Around) → v ≡ aroundIn a b kinds routes (taken .train) r
-        → Between a b kinds routes t l₀ bytes before (set boxes j x) (set trains i r) (set seen i v) (set answers n c) (n + 1)
+        → Next (set boxes j x) (set trains i r) (set seen i v) c
     unfolding apply putTrain putBox setNth
     turn-moved z e v v-is =
         turn-to _ _ _ _ (changed-places _)

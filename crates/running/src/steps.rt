@@ -2,6 +2,7 @@
 use deciding::moves::clear;
 use deciding::moves::enter;
 use deciding::requests::answer;
+use layout::network;
 use rules::Around;
 use rules::Effect;
 use rules::SwitchBox;
@@ -26,7 +27,7 @@ pub(crate) struct Moved {
 }
 
 // The index of a train's record, and of a box's.
-pub(crate) fn train_index(train: u8) -> usize
+fn train_index(train: u8) -> usize
     requires { ⌜ 1 ≤ train ⌝ }
     requires { ⌜ train ≤ 16 ⌝ }
     ensures { λ i. ⌜ i ≡ train - 1 ⌝ }
@@ -35,7 +36,7 @@ pub(crate) fn train_index(train: u8) -> usize
     (train - 1) as usize
 }
 
-pub(crate) fn box_index(number: u8) -> usize
+fn box_index(number: u8) -> usize
     requires { ⌜ 1 ≤ number ⌝ }
     requires { ⌜ number ≤ 96 ⌝ }
     ensures { λ j. ⌜ j ≡ number - 1 ⌝ }
@@ -110,7 +111,7 @@ pub(crate) fn advance(
         let form = deciding::form_code(kind, number);
         if form != 0 {
             answers[index] = form;
-        } else if !deciding::known(train, k) {
+        } else if network::outside(k, train) {
             answers[index] = 14;
         } else {
             let i = train_index(train);

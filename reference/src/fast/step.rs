@@ -30,7 +30,7 @@ impl Line {
         0
     }
 
-    /// Takes a step on a record that holds, and gives its code. It is to be a part of the loop of `run`.
+    /// Takes a step on a record that holds, and gives its code. Inlined into the loop of `run`.
     #[inline(always)]
     pub fn step(&mut self, [kind, train, number]: Step) -> u8 {
         match kind {

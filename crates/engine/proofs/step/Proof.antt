@@ -4,6 +4,7 @@ use mathlib.Core.Path.{_≡_, refl, sym, _∙_}
 use native.Mathlib.Omega.{arith}
 use borrow.Author.Needs.{needs}
 use lib.ListN.{length}
+use Rattle.rules.specs.declared.Line.{Line}
 use Rattle.rules.specs.Rows.{nth}
 use Rattle.rules.specs.Track.{planAt}
 use Rattle.rules.specs.Line.{around, boxAt}
@@ -86,7 +87,7 @@ returns-5 : tie.Need-returns-5
 returns-5 c =
     let found = c .before .before .before .before in
     let form = c .before .before in
-    single-unknown (passed found) (asked (checked found)) _ (form .before .form-code .ensures) (form .if4 .left) _ (c .before .known .ensures) (c .if5 .taken)
+    single-unknown (passed found) (asked (checked found)) _ (form .before .form-code .ensures) (form .if4 .left) _ (c .before .outside .ensures) (c .if5 .taken)
 
 -- 13 and 14 do not stop the step.
 free : (c : tie.Else5)
@@ -95,58 +96,73 @@ free : (c : tie.Else5)
 free c =
     let table = checked (c .before .before .before .before) in
     let form = c .before .before in
-    takes _ (asked table) _ _ _ (form .before .form-code .ensures) (form .if4 .left) (c .before .known .ensures) (c .if5 .left) refl
+    takes _ (asked table) _ _ _ (form .before .form-code .ensures) (form .if4 .left) (c .before .outside .ensures) (c .if5 .left) refl
 
-train-room : (c : tie.Else5) → let train = asked (checked (c .before .before .before .before)) .train in (1 ≤ train) × (train ≤ 16)
-train-room c = train-within _ _ _ (sound (passed (c .before .before .before .before))) (free c)
+train-bounds : (c : tie.Else5) → let train = asked (checked (c .before .before .before .before)) .train in (1 ≤ train) × (train ≤ 16)
+train-bounds c = train-within _ _ _ (sound (passed (c .before .before .before .before))) (free c)
 
--- What stands around the train is looked up.
+-- What stands around the train is looked up: the line and the step there, and what was found before.
+abbrev begun : tie.After-around → tie.Else5
+begun c = c .before .before .before .before .before .before .before
+
 abbrev found : tie.After-around → tie.Else3
-found c = c .before .before .before .before .before .before .before .before .before .before .before
+found c = begun c .before .before .before .before
 
-taken : (c : tie.After-around) → Taken (start (checked (found c)) .args .t1 .table) (asked (checked (found c))) (asked (checked (found c)) .train - 1)
-taken c = free (c .before .before .before .before .before .before .before)
+abbrev lineHere : tie.After-around → Line
+lineHere c = start (checked (found c)) .args .t1
 
-viewed : (c : tie.After-around) → c .around .result ≡ around (start (checked (found c)) .args .t1) (asked (checked (found c)) .train)
+abbrev stepHere : tie.After-around → Step
+stepHere c = asked (checked (found c))
+
+taken : (c : tie.After-around) → Taken (lineHere c .table) (stepHere c) (stepHere c .train - 1)
+taken c = free (begun c)
+
+viewed : (c : tie.After-around) → c .around .result ≡ around (lineHere c) (stepHere c .train)
 viewed c = single-viewed (passed (found c)) (taken c) _ (c .around .ensures)
 
-box-room : (c : tie.Else6) → (1 ≤ c .before .concerned .result) × (c .before .concerned .result ≤ 96)
-box-room c =
+box-bounds : (c : tie.Else6) → (1 ≤ c .before .concerned .result) × (c .before .concerned .result ≤ 96)
+box-bounds c =
     let view = c .before .before in
-    concerned-within _ (asked (checked (found view))) _ (sound (passed (found view))) (taken view) _ (viewed view) _ (c .before .concerned .ensures) (c .if6 .left)
+    concerned-within _ (stepHere view) _ (sound (passed (found view))) (taken view) _ (viewed view) _ (c .before .concerned .ensures) (c .if6 .left)
 
 -- What is decided without a box, and at one, is the step.
+abbrev view : tie.After-decide → tie.After-around
+view c = c .before .before .before .before .before
+
+abbrev view-at : tie.After-decide2 → tie.After-around
+view-at c = c .before .before .before .before .before
+
 alone : (c : tie.After-decide)
-    → let view = c .before .before .before .before .before in
-    Turned (start (checked (found view)) .args .t1) (asked (checked (found view))) (asked (checked (found view)) .train - 1) 0 (c .decide .result)
+    → let view = view c in
+    Turned (lineHere view) (stepHere view) (stepHere view .train - 1) 0 (c .decide .result)
 unfolding planAt boxAt nth
 alone c =
-    let view = c .before .before .before .before .before in
-    turned _ (asked (checked (found view))) _ (sound (passed (found view))) (taken view) _ (viewed view) 0 _
+    let view = view c in
+    turned _ (stepHere view) _ (sound (passed (found view))) (taken view) _ (viewed view) 0 _
     (sym (c .before .before .before .if6 .taken) ∙ c .before .before .before .before .concerned .ensures)
     (rw (c .before .before .no-plan .ensures, c .before .no-box .ensures) at (c .decide .ensures))
 
 at-box : (c : tie.After-decide2)
-    → let view = c .before .before .before .before .before in
-    Turned (start (checked (found view)) .args .t1) (asked (checked (found view))) (asked (checked (found view)) .train - 1)
+    → let view = view-at c in
+    Turned (lineHere view) (stepHere view) (stepHere view .train - 1)
     (suc (c .before .before .before .before .concerned .result - 1)) (c .decide2 .result)
 unfolding planAt boxAt nth
 at-box c =
-    let view = c .before .before .before .before .before in
-    turned _ (asked (checked (found view))) _ (sound (passed (found view))) (taken view) _ (viewed view) _ _
-    (sym (one-more refl (box-room (c .before .before .before) .0)) ∙ c .before .before .before .before .concerned .ensures) (c .decide2 .ensures)
+    let view = view-at c in
+    turned _ (stepHere view) _ (sound (passed (found view))) (taken view) _ (viewed view) _ _
+    (sym (one-more refl (box-bounds (c .before .before .before) .0)) ∙ c .before .before .before .before .concerned .ensures) (c .decide2 .ensures)
 
 returns-6 : tie.Need-returns-6
-returns-6 c = single-refused (passed (found (c .before .before .before .before .before .before .before .before))) (alone (c .before .before .before)) (c .before .d .given .1)
+returns-6 c = single-refused (passed (found (view (c .before .before .before)))) (alone (c .before .before .before)) (c .before .d .given .1)
 
 returns-7 : tie.Need-returns-7
-returns-7 c = single-alone (passed (found (c .before .before .before .before .before .before .before .before))) (alone (c .before .before .before)) (c .before .d2 .given .1)
+returns-7 c = single-alone (passed (found (view (c .before .before .before)))) (alone (c .before .before .before)) (c .before .d2 .given .1)
 
 returns-8 : tie.Need-returns-8
-returns-8 c = single-refused (passed (found (c .before .before .before .before .before .before .before .before))) (at-box (c .before .before .before)) (c .before .d3 .given .1)
+returns-8 c = single-refused (passed (found (view-at (c .before .before .before)))) (at-box (c .before .before .before)) (c .before .d3 .given .1)
 
 returns-9 : tie.Need-returns-9
-returns-9 c = single-changed (passed (found (c .before .before .before .before .before .before .before .before))) (at-box (c .before .before .before)) (c .before .d4 .given .1)
+returns-9 c = single-changed (passed (found (view-at (c .before .before .before)))) (at-box (c .before .before .before)) (c .before .d4 .given .1)
 
 pub step-spec : {M : Type 1} → statement M
 step-spec =
@@ -165,10 +181,10 @@ step-spec =
     returns-4
     (λ c κs. search needs)
     returns-5
-    (λ c. omega (arith, train-room (c)))
-    (λ c. omega (arith, train-room (c)))
-    (λ c. omega (arith, train-room (c)))
-    (λ c. omega (arith, train-room (c)))
+    (λ c. omega (arith, train-bounds c))
+    (λ c. omega (arith, train-bounds c))
+    (λ c. omega (arith, train-bounds c))
+    (λ c. omega (arith, train-bounds c))
     (λ c κs. search needs)
     (λ c κs. search needs)
     (λ c κs. search needs)
@@ -176,21 +192,21 @@ step-spec =
     (λ c κs. search needs)
     (λ c. search needs)
     (λ c. search needs)
-    (λ c. omega (arith, train-room (c .before .before .before .before .before .before .before .before .before .before .before .before .before .before .before)))
-    (λ c. omega (arith, train-room (c .before .before .before .before .before .before .before .before .before .before .before .before .before .before .before)))
-    (λ c. omega (arith, box-room (c)))
-    (λ c. omega (arith, box-room (c)))
-    (λ c. omega (arith, box-room (c)))
-    (λ c. omega (arith, box-room (c)))
-    (λ c. omega (arith, box-room (c .before)))
-    (λ c. omega (arith, box-room (c .before)))
+    (λ c. omega (arith, train-bounds (begun (view (c .before .before .before)))))
+    (λ c. omega (arith, train-bounds (begun (view (c .before .before .before)))))
+    (λ c. omega (arith, box-bounds c))
+    (λ c. omega (arith, box-bounds c))
+    (λ c. omega (arith, box-bounds c))
+    (λ c. omega (arith, box-bounds c))
+    (λ c. omega (arith, box-bounds (c .before)))
+    (λ c. omega (arith, box-bounds (c .before)))
     (λ c κs. search needs)
     (λ c. search needs)
     (λ c. search needs)
-    (λ c. omega (arith, train-room (c .before .before .before .before .before .before .before .before .before .before .before .before .before .before .before)))
-    (λ c. omega (arith, train-room (c .before .before .before .before .before .before .before .before .before .before .before .before .before .before .before)))
-    (λ c. omega (arith, box-room (c .before .before .before .before .before .before)))
-    (λ c. omega (arith, box-room (c .before .before .before .before .before .before)))
+    (λ c. omega (arith, train-bounds (begun (view-at (c .before .before .before)))))
+    (λ c. omega (arith, train-bounds (begun (view-at (c .before .before .before)))))
+    (λ c. omega (arith, box-bounds (c .before .before .before .before .before .before)))
+    (λ c. omega (arith, box-bounds (c .before .before .before .before .before .before)))
     returns-6
     returns-7
     returns-8

@@ -1,5 +1,5 @@
 -- Each arm by its variant.
-use mathlib.Core.Path.{sym, ap, _∙_}
+use mathlib.Core.Path.{sym, ap}
 use borrow.Author.Needs.{needs}
 use Rattle.rules.specs.Steps.{trainHears}
 use Rattle.deciding.proofs.requests.hear.Statement.{statement}

@@ -1,6 +1,6 @@
 -- By the code.
 use borrow.Author.Needs.{needs}
-use borrow.Author.Tests.{eq-eqb, ne-eqb}
+use borrow.Author.Tests.{ne-eqb}
 use Rattle.rules.specs.Steps.{reply}
 use Rattle.deciding.proofs.requests.reply.Statement.{statement}
 use Rattle.deciding.proofs.requests.reply.Tie as tie

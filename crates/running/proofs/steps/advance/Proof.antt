@@ -1,6 +1,6 @@
 -- Each turn takes one step.
 use Prim.Native.Nat.{ℕ, suc, _-_, _<_}
-use mathlib.Core.Path.{_≡_, refl, sym, _∙_}
+use mathlib.Core.Path.{_≡_, refl, _∙_}
 use native.Mathlib.Omega.{arith}
 use borrow.Author.Needs.{needs}
 use lib.ListN.{length, length-set}
@@ -11,7 +11,7 @@ use Rattle.rules.proofs.Rows.{length-mapped}
 use Rattle.rules.proofs.Staying.{alone-stays, answer-stays}
 use Rattle.running.specs.Loop.{standing}
 use Rattle.running.proofs.Running.{stepAt, running-start, running-room, running-line, running-whole, running-partial}
-use Rattle.running.proofs.Turn.{around-shown, Taken, takes, taken-at, one-more, Turned, train-within, ahead-within, passed-within, asked-within, turned-answer, turned-unasked, turned-enter, turned-clear, turned-alone, Between, sound-here, turn-unformed, turn-unknown, viewed, turn-refused, turn-answered, turn-alone, turn-moved}
+use Rattle.running.proofs.Turn.{around-shown, Taken, takes, taken-at, Turned, train-within, Between, sound-here, turn-unformed, turn-unknown, ahead-within, passed-within, asked-within, turned-answer, turned-unasked, turned-enter, turned-clear, turned-alone, turn-refused, turn-answered, turn-alone, turn-moved}
 use Rattle.running.proofs.steps.advance.Statement.{statement}
 use Rattle.running.proofs.steps.advance.Tie as tie
 
@@ -45,12 +45,24 @@ loop-holds c =
       running = running-start step _ _ _;
     }
 
--- The start of a turn, from where its kind and its train have passed.
+-- The start of a turn, from where its kind and its train have passed; and that place, from where a step is decided.
 abbrev turn : tie.After-train-index Inv-loop μ-loop → tie.In-loop Inv-loop μ-loop
 turn c = c .before .before .before .before .before .before .before .before
 
 abbrev start : tie.In-loop Inv-loop μ-loop → tie.Start Inv-loop μ-loop
 start c = c .before .before .before .before .before
+
+abbrev at-answer : tie.After-answer Inv-loop μ-loop → tie.After-train-index Inv-loop μ-loop
+at-answer c = c .before .before .before .before .before .before .before .before .before .before
+
+abbrev at-enter : tie.After-enter Inv-loop μ-loop → tie.After-train-index Inv-loop μ-loop
+at-enter c = c .before .before .before .before .before .before
+
+abbrev at-clear : tie.After-clear Inv-loop μ-loop → tie.After-train-index Inv-loop μ-loop
+at-clear c = c .before .before .before .before .before .before .before
+
+abbrev at-alone : tie.After-alone Inv-loop μ-loop → tie.After-train-index Inv-loop μ-loop
+at-alone c = c .before .before .before .before .before
 
 abbrev stepHere : tie.In-loop Inv-loop μ-loop → Step
 stepHere c = stepAt (start c .args .steps .now) (c .before .loop .n)
@@ -60,7 +72,7 @@ passed : (c : tie.Else2 Inv-loop μ-loop)
     Taken (start begun .args .t1) (stepHere begun) (stepHere begun .train - 1)
 passed c =
     let form = c .before .before in
-    takes _ (stepHere (form .before .before .before .before .before)) _ _ _ (form .before .form-code .ensures) (form .if1 .left) (c .before .known .ensures) (c .if2 .left) refl
+    takes _ (stepHere (form .before .before .before .before .before)) _ _ _ (form .before .form-code .ensures) (form .if1 .left) (c .before .outside .ensures) (c .if2 .left) refl
 
 taken : (c : tie.After-train-index Inv-loop μ-loop) → Taken (start (turn c) .args .t1) (stepHere (turn c)) (c .train-index .result)
 taken c = taken-at (passed (c .before)) (c .train-index .ensures .0)
@@ -76,31 +88,31 @@ slice-write-answers-2 : tie.Need-slice-write-answers-2 Inv-loop μ-loop
 slice-write-answers-2 c = room (c .before .before .before .before .before .before .before)
 
 slice-write-answers-3 : tie.Need-slice-write-answers-3 Inv-loop μ-loop
-slice-write-answers-3 c = room (c .before .before .before .before .before .before .before .before .before .before .before .before)
+slice-write-answers-3 c = room (turn (c .before .before .before .before))
 
 slice-write-answers-4 : tie.Need-slice-write-answers-4 Inv-loop μ-loop
-slice-write-answers-4 c = room (c .before .before .before .before .before .before .before .before .before .before .before .before .before .before .before .before .before .before .before .before .before)
+slice-write-answers-4 c = room (turn (at-answer (c .before .before .before)))
 
 slice-write-answers-5 : tie.Need-slice-write-answers-5 Inv-loop μ-loop
-slice-write-answers-5 c = room (c .before .before .before .before .before .before .before .before .before .before .before .before .before .before .before .before .before .before .before .before .before)
+slice-write-answers-5 c = room (turn (at-answer (c .before .before .before)))
 
 slice-write-answers-6 : tie.Need-slice-write-answers-6 Inv-loop μ-loop
-slice-write-answers-6 c = room (c .before .before .before .before .before .before .before .before .before .before .before .before .before .before .before .before .before)
+slice-write-answers-6 c = room (turn (at-enter (c .before .before .before)))
 
 slice-write-answers-7 : tie.Need-slice-write-answers-7 Inv-loop μ-loop
-slice-write-answers-7 c = room (c .before .before .before .before .before .before .before .before .before .before .before .before .before .before .before .before .before)
+slice-write-answers-7 c = room (turn (at-enter (c .before .before .before)))
 
 slice-write-answers-8 : tie.Need-slice-write-answers-8 Inv-loop μ-loop
-slice-write-answers-8 c = room (c .before .before .before .before .before .before .before .before .before .before .before .before .before .before .before .before .before .before)
+slice-write-answers-8 c = room (turn (at-clear (c .before .before .before)))
 
 slice-write-answers-9 : tie.Need-slice-write-answers-9 Inv-loop μ-loop
-slice-write-answers-9 c = room (c .before .before .before .before .before .before .before .before .before .before .before .before .before .before .before .before .before .before)
+slice-write-answers-9 c = room (turn (at-clear (c .before .before .before)))
 
 slice-write-answers-10 : tie.Need-slice-write-answers-10 Inv-loop μ-loop
-slice-write-answers-10 c = room (c .before .before .before .before .before .before .before .before .before .before .before .before .before .before .before .before)
+slice-write-answers-10 c = room (turn (at-alone (c .before .before .before)))
 
 slice-write-answers-11 : tie.Need-slice-write-answers-11 Inv-loop μ-loop
-slice-write-answers-11 c = room (c .before .before .before .before .before .before .before .before .before .before .before .before .before .before .before .before)
+slice-write-answers-11 c = room (turn (at-alone (c .before .before .before)))
 
 loop-less : tie.Need-loop-less Inv-loop μ-loop
 loop-less c = omega (arith, c .before .before .before .before .before .loop-test .taken)
@@ -109,58 +121,52 @@ loop-less-2 : tie.Need-loop-less-2 Inv-loop μ-loop
 loop-less-2 c = omega (arith, c .before .before .before .before .before .before .before .loop-test .taken)
 
 loop-less-3 : tie.Need-loop-less-3 Inv-loop μ-loop
-loop-less-3 c = omega (arith, c .before .before .before .before .before .before .before .before .before .before .before .before .loop-test .taken)
+loop-less-3 c = omega (arith, turn (c .before .before .before .before) .loop-test .taken)
 
 loop-less-4 : tie.Need-loop-less-4 Inv-loop μ-loop
-loop-less-4 c = omega (arith, c .before .before .before .before .before .before .before .before .before .before .before .before .before .before .before .before .before .before .before .before .before .loop-test .taken)
+loop-less-4 c = omega (arith, turn (at-answer (c .before .before .before)) .loop-test .taken)
 
 loop-less-5 : tie.Need-loop-less-5 Inv-loop μ-loop
-loop-less-5 c = omega (arith, c .before .before .before .before .before .before .before .before .before .before .before .before .before .before .before .before .before .before .before .before .before .loop-test .taken)
+loop-less-5 c = omega (arith, turn (at-answer (c .before .before .before)) .loop-test .taken)
 
 loop-less-6 : tie.Need-loop-less-6 Inv-loop μ-loop
-loop-less-6 c = omega (arith, c .before .before .before .before .before .before .before .before .before .before .before .before .before .before .before .before .before .loop-test .taken)
+loop-less-6 c = omega (arith, turn (at-enter (c .before .before .before)) .loop-test .taken)
 
 loop-less-7 : tie.Need-loop-less-7 Inv-loop μ-loop
-loop-less-7 c = omega (arith, c .before .before .before .before .before .before .before .before .before .before .before .before .before .before .before .before .before .before .loop-test .taken)
+loop-less-7 c = omega (arith, turn (at-enter (c .before .before .before .before)) .loop-test .taken)
 
 loop-less-8 : tie.Need-loop-less-8 Inv-loop μ-loop
-loop-less-8 c = omega (arith, c .before .before .before .before .before .before .before .before .before .before .before .before .before .before .before .before .before .before .loop-test .taken)
+loop-less-8 c = omega (arith, turn (at-clear (c .before .before .before)) .loop-test .taken)
 
 loop-less-9 : tie.Need-loop-less-9 Inv-loop μ-loop
-loop-less-9 c = omega (arith, c .before .before .before .before .before .before .before .before .before .before .before .before .before .before .before .before .before .before .before .loop-test .taken)
+loop-less-9 c = omega (arith, turn (at-clear (c .before .before .before .before)) .loop-test .taken)
 
 loop-less-10 : tie.Need-loop-less-10 Inv-loop μ-loop
-loop-less-10 c = omega (arith, c .before .before .before .before .before .before .before .before .before .before .before .before .before .before .before .before .loop-test .taken)
+loop-less-10 c = omega (arith, turn (at-alone (c .before .before .before)) .loop-test .taken)
 
 loop-less-11 : tie.Need-loop-less-11 Inv-loop μ-loop
-loop-less-11 c = omega (arith, c .before .before .before .before .before .before .before .before .before .before .before .before .before .before .before .before .loop-test .taken)
+loop-less-11 c = omega (arith, turn (at-alone (c .before .before .before)) .loop-test .taken)
 
 -- What stands around a train that has cleared its tail is put at its index.
 mul-seen-2 : tie.Need-mul-seen-2 Inv-loop μ-loop
-mul-seen-2 c = omega (arith, c .before .before .before .before .before .before .before .before .before .before .before .train-index .ensures .1)
+mul-seen-2 c = omega (arith, at-clear (c .before .before .before .before) .train-index .ensures .1)
 
 array-set-from-seen-2 : tie.Need-array-set-from-seen-2 Inv-loop μ-loop
-array-set-from-seen-2 c = omega (arith, c .before .before .before .before .before .before .before .before .before .before .before .train-index .ensures .1)
+array-set-from-seen-2 c = omega (arith, at-clear (c .before .before .before .before) .train-index .ensures .1)
 
 -- 13 and 14.
 loop-again : tie.Need-loop-again Inv-loop μ-loop
 loop-again c =
-    let start = c .before .before .before .before .before in
-    turn-unformed (start .before .loop .inv) (start .loop-test .taken) _ (c .before .form-code .ensures) (c .if1 .taken)
+    let begun = c .before .before .before .before .before in
+    turn-unformed (begun .before .loop .inv) (begun .loop-test .taken) _ (c .before .form-code .ensures) (c .if1 .taken)
 
 loop-again-2 : tie.Need-loop-again-2 Inv-loop μ-loop
 loop-again-2 c =
-    let start = c .before .before .before .before .before .before .before in
+    let begun = c .before .before .before .before .before .before .before in
     let form = c .before .before in
-    turn-unknown (start .before .loop .inv) (start .loop-test .taken) _ (form .before .form-code .ensures) (form .if1 .left) _ (c .before .known .ensures) (c .if2 .taken)
+    turn-unknown (begun .before .loop .inv) (begun .loop-test .taken) _ (form .before .form-code .ensures) (form .if1 .left) _ (c .before .outside .ensures) (c .if2 .taken)
 
--- What is decided at the train's index is the step: a box's answer, Enter, Clear, and what is the train's alone.
-abbrev TurnedAt : tie.After-train-index Inv-loop μ-loop → ℕ → Effect → Type 0
-TurnedAt c e d =
-    let loop = turn c .before .loop in
-    let args = start (turn c) .args in
-    Turned (standing (args .t1) (loop .boxes) (loop .trains) (args .routes .now)) (stepHere (turn c)) (c .train-index .result) e d
-
+-- There are such a train and such a box.
 train-index-requires : tie.Need-train-index-requires Inv-loop μ-loop
 train-index-requires c κs =
     let begun = c .before .before .before .before .before .before .before in
@@ -169,59 +175,46 @@ train-index-requires c κs =
 box-index-requires : tie.Need-box-index-requires Inv-loop μ-loop
 box-index-requires c κs =
     let w = c .before .before .before .before in
-    let h = turn w .before .loop .inv in
-    let more = turn w .loop-test .taken in
-    asked-within _ _ _ (sound-here h more) (taken w) _ (viewed h more _ (taken w)) _ (c .before .message-box .ensures) (c .if3 .left)
+    asked-within (turn w .before .loop .inv) (turn w .loop-test .taken) _ (taken w) _ (c .before .message-box .ensures) (c .if3 .left)
 
 box-index-requires-2 : tie.Need-box-index-requires-2 Inv-loop μ-loop
 box-index-requires-2 c κs =
     let w = c .before .before in
-    let h = turn w .before .loop .inv in
-    let more = turn w .loop-test .taken in
-    ahead-within _ _ _ (sound-here h more) (taken w) _ (viewed h more _ (taken w))
+    ahead-within (turn w .before .loop .inv) (turn w .loop-test .taken) _ (taken w)
 
 box-index-requires-3 : tie.Need-box-index-requires-3 Inv-loop μ-loop
 box-index-requires-3 c κs =
     let w = c .before .before in
-    let h = turn w .before .loop .inv in
-    let more = turn w .loop-test .taken in
-    passed-within _ _ _ (sound-here h more) (taken w) _ (viewed h more _ (taken w))
+    passed-within (turn w .before .loop .inv) (turn w .loop-test .taken) _ (taken w)
 
-answered : (c : tie.After-answer Inv-loop μ-loop) → TurnedAt (c .before .before .before .before .before .before .before .before .before .before) (suc (c .before .before .before .before .before .box-index .result)) (c .answer .result)
+-- What is decided at the train's index is the step: a box's answer, Enter, Clear, and what is the train's alone.
+abbrev TurnedAt : tie.After-train-index Inv-loop μ-loop → ℕ → Effect → Type 0
+TurnedAt c e d =
+    let loop = turn c .before .loop in
+    let args = start (turn c) .args in
+    Turned (standing (args .t1) (loop .boxes) (loop .trains) (args .routes .now)) (stepHere (turn c)) (c .train-index .result) e d
+
+answered : (c : tie.After-answer Inv-loop μ-loop) → TurnedAt (at-answer c) (suc (c .before .before .before .before .before .box-index .result)) (c .answer .result)
 answered c =
-    let w = c .before .before .before .before .before .before .before .before .before .before in
-    let h = turn w .before .loop .inv in
-    let more = turn w .loop-test .taken in
-    let asked = c .before .before .before .before .before .before .before in
-    let within = asked-within _ _ _ (sound-here h more) (taken w) _ (viewed h more _ (taken w)) _ (asked .message-box .ensures) (c .before .before .before .before .before .before .if3 .left) in
-    turned-answer _ _ _ (sound-here h more) (taken w) _ (viewed h more _ (taken w)) _ (c .before .before .before .before .before .before .before .before .before .match .keys1)
-    (sym (asked .message-box .ensures) ∙ one-more (c .before .before .before .before .before .box-index .ensures .0) (within .0)) _ (c .answer .ensures)
+    let w = at-answer c in
+    turned-answer (turn w .before .loop .inv) (turn w .loop-test .taken) _ (taken w) _ _ (c .before .before .before .before .before .before .before .before .before .match .keys1) (c .before .before .before .before .before .before .before .message-box .ensures) (c .before .before .before .before .before .before .if3 .left)
+    (c .before .before .before .before .before .box-index .ensures .0) _ (c .answer .ensures)
 
-entered : (c : tie.After-enter Inv-loop μ-loop) → TurnedAt (c .before .before .before .before .before .before) (suc (c .before .before .before .box-index2 .result)) (c .enter .result)
+entered : (c : tie.After-enter Inv-loop μ-loop) → TurnedAt (at-enter c) (suc (c .before .before .before .box-index2 .result)) (c .enter .result)
 entered c =
-    let w = c .before .before .before .before .before .before in
-    let h = turn w .before .loop .inv in
-    let more = turn w .loop-test .taken in
-    let within = ahead-within _ _ _ (sound-here h more) (taken w) _ (viewed h more _ (taken w)) in
-    turned-enter _ _ _ (sound-here h more) (taken w) _ (viewed h more _ (taken w)) _ (c .before .before .before .before .before .match .keys2)
-    (one-more (c .before .before .before .box-index2 .ensures .0) (within .0)) _ (c .enter .ensures)
+    let w = at-enter c in
+    turned-enter (turn w .before .loop .inv) (turn w .loop-test .taken) _ (taken w) _ (c .before .before .before .before .before .match .keys2) (c .before .before .before .box-index2 .ensures .0) _ (c .enter .ensures)
 
-cleared : (c : tie.After-clear Inv-loop μ-loop) → TurnedAt (c .before .before .before .before .before .before .before) (suc (c .before .before .before .before .box-index3 .result)) (c .clear .result)
+cleared : (c : tie.After-clear Inv-loop μ-loop) → TurnedAt (at-clear c) (suc (c .before .before .before .before .box-index3 .result)) (c .clear .result)
 cleared c =
-    let w = c .before .before .before .before .before .before .before in
-    let h = turn w .before .loop .inv in
-    let more = turn w .loop-test .taken in
-    let within = passed-within _ _ _ (sound-here h more) (taken w) _ (viewed h more _ (taken w)) in
-    turned-clear _ _ _ (sound-here h more) (taken w) _ (viewed h more _ (taken w)) _ (c .before .before .before .before .before .before .match .keys3)
-    (one-more (c .before .before .before .before .box-index3 .ensures .0) (within .0)) _ (c .clear .ensures)
+    let w = at-clear c in
+    turned-clear (turn w .before .loop .inv) (turn w .loop-test .taken) _ (taken w) _ (c .before .before .before .before .before .before .match .keys3) (c .before .before .before .before .box-index3 .ensures .0) _ (c .clear .ensures)
 
-acted : (c : tie.After-alone Inv-loop μ-loop) → TurnedAt (c .before .before .before .before .before) 0 (c .alone .result)
+acted : (c : tie.After-alone Inv-loop μ-loop) → TurnedAt (at-alone c) 0 (c .alone .result)
 acted c =
-    let w = c .before .before .before .before .before in
-    let h = turn w .before .loop .inv in
-    let more = turn w .loop-test .taken in
+    let w = at-alone c in
     let others = c .before .before .before .before .match .rest in
-    turned-alone _ _ _ (sound-here h more) (taken w) _ (viewed h more _ (taken w)) (others .0 .0 .1) (others .0 .1) (others .1) _
+    turned-alone (turn w .before .loop .inv) (turn w .loop-test .taken) _ (taken w) (others .0 .0 .1) (others .0 .1) (others .1) _
     (rw (c .before .no-box .ensures) at (c .alone .ensures))
 
 -- The ends of a turn.
@@ -230,52 +223,49 @@ loop-again-3 c =
     let w = c .before .before .before .before in
     let h = turn w .before .loop .inv in
     let more = turn w .loop-test .taken in
-    turn-refused h more _ (taken w)
-    (turned-unasked _ _ _ (sound-here h more) (taken w) _ (viewed h more _ (taken w)) (c .before .before .before .match .keys1)
-    (sym (c .before .message-box .ensures) ∙ c .if3 .taken))
-    refl
+    turn-refused h more _ (taken w) (turned-unasked h more _ (taken w) _ (c .before .before .before .match .keys1) (c .before .message-box .ensures) (c .if3 .taken)) refl
 
 loop-again-4 : tie.Need-loop-again-4 Inv-loop μ-loop
 loop-again-4 c =
-    let w = c .before .before .before .before .before .before .before .before .before .before .before .before .before in
+    let w = at-answer (c .before .before .before) in
     turn-refused (turn w .before .loop .inv) (turn w .loop-test .taken) _ (taken w) (answered (c .before .before .before)) (c .before .d .given .1)
-
-loop-again-6 : tie.Need-loop-again-6 Inv-loop μ-loop
-loop-again-6 c =
-    let w = c .before .before .before .before .before .before .before .before .before in
-    turn-refused (turn w .before .loop .inv) (turn w .loop-test .taken) _ (taken w) (entered (c .before .before .before)) (c .before .d3 .given .1)
-
-loop-again-8 : tie.Need-loop-again-8 Inv-loop μ-loop
-loop-again-8 c =
-    let w = c .before .before .before .before .before .before .before .before .before .before in
-    turn-refused (turn w .before .loop .inv) (turn w .loop-test .taken) _ (taken w) (cleared (c .before .before .before)) (c .before .d5 .given .1)
-
-loop-again-10 : tie.Need-loop-again-10 Inv-loop μ-loop
-loop-again-10 c =
-    let w = c .before .before .before .before .before .before .before .before in
-    turn-refused (turn w .before .loop .inv) (turn w .loop-test .taken) _ (taken w) (acted (c .before .before .before)) (c .before .d7 .given .1)
 
 loop-again-5 : tie.Need-loop-again-5 Inv-loop μ-loop
 loop-again-5 c =
-    let w = c .before .before .before .before .before .before .before .before .before .before .before .before .before in
+    let w = at-answer (c .before .before .before) in
     turn-answered (turn w .before .loop .inv) (turn w .loop-test .taken) _ (taken w) (answered (c .before .before .before)) (c .before .d2 .given .1)
     (rw (c .before .before .before .answer .ensures) (answer-stays _ _ _ _ _))
 
-loop-again-11 : tie.Need-loop-again-11 Inv-loop μ-loop
-loop-again-11 c =
-    let w = c .before .before .before .before .before .before .before .before in
-    turn-alone (turn w .before .loop .inv) (turn w .loop-test .taken) _ (taken w) (acted (c .before .before .before)) (c .before .d8 .given .1)
-    (rw (c .before .before .before .alone .ensures) (alone-stays _ _ _ _ _))
+loop-again-6 : tie.Need-loop-again-6 Inv-loop μ-loop
+loop-again-6 c =
+    let w = at-enter (c .before .before .before) in
+    turn-refused (turn w .before .loop .inv) (turn w .loop-test .taken) _ (taken w) (entered (c .before .before .before)) (c .before .d3 .given .1)
 
 loop-again-7 : tie.Need-loop-again-7 Inv-loop μ-loop
 loop-again-7 c =
-    let w = c .before .before .before .before .before .before .before .before .before .before in
+    let w = at-enter (c .before .before .before .before) in
     turn-moved (turn w .before .loop .inv) (turn w .loop-test .taken) _ (taken w) (entered (c .before .before .before .before)) (c .before .before .d4 .given .1) _ (c .around .ensures)
+
+loop-again-8 : tie.Need-loop-again-8 Inv-loop μ-loop
+loop-again-8 c =
+    let w = at-clear (c .before .before .before) in
+    turn-refused (turn w .before .loop .inv) (turn w .loop-test .taken) _ (taken w) (cleared (c .before .before .before)) (c .before .d5 .given .1)
 
 loop-again-9 : tie.Need-loop-again-9 Inv-loop μ-loop
 loop-again-9 c =
-    let w = c .before .before .before .before .before .before .before .before .before .before .before in
+    let w = at-clear (c .before .before .before .before) in
     turn-moved (turn w .before .loop .inv) (turn w .loop-test .taken) _ (taken w) (cleared (c .before .before .before .before)) (c .before .before .d6 .given .1) _ (c .around2 .ensures)
+
+loop-again-10 : tie.Need-loop-again-10 Inv-loop μ-loop
+loop-again-10 c =
+    let w = at-alone (c .before .before .before) in
+    turn-refused (turn w .before .loop .inv) (turn w .loop-test .taken) _ (taken w) (acted (c .before .before .before)) (c .before .d7 .given .1)
+
+loop-again-11 : tie.Need-loop-again-11 Inv-loop μ-loop
+loop-again-11 c =
+    let w = at-alone (c .before .before .before) in
+    turn-alone (turn w .before .loop .inv) (turn w .loop-test .taken) _ (taken w) (acted (c .before .before .before)) (c .before .d8 .given .1)
+    (rw (c .before .before .before .alone .ensures) (alone-stays _ _ _ _ _))
 
 slice-write-answers-12 : tie.Need-slice-write-answers-12 Inv-loop μ-loop
 unfolding stepCount

@@ -53,6 +53,15 @@ pub fn table_s() -> Case {
     Case::driven("table S".to_string(), read_table(S).expect("table S is accepted"))
 }
 
+/// Trains of table S that wait: they try to clear, to enter and to be answered.
+pub fn waiting() -> Case {
+    Case::new("table S, waiting".to_string(), read_table(S).expect("table S is accepted"), |rng, table| {
+        let mut line = start_line(table);
+        let mut one = || [rng.pick(&[6, 6, 5, 3]), 1 + rng.below(2) as u8, 0];
+        (0..STEPS).map(|_| one()).map(|bytes| (bytes, step(&mut line, bytes))).collect()
+    })
+}
+
 pub fn largest(seed: u64) -> Case {
     Case::driven(format!("largest, seed {seed}"), largest_table(&mut Prng::for_case(seed, 0)))
 }
@@ -65,10 +74,11 @@ pub fn random_bytes() -> Case {
     })
 }
 
-/// Table S; the largest tables that the generator makes; one of them with random bytes for steps; the longest single track,
-/// its segments numbered in three ways; tables of growing n and m with few trains, and of growing k.
+/// Table S, with steps of a driver and of waiting trains; the largest tables that the generator makes; one of them with random
+/// bytes for steps; the longest single track, its segments numbered in three ways; tables of growing n and m with few trains, and
+/// of growing k.
 pub fn all() -> Vec<Case> {
-    let mut all = vec![table_s()];
+    let mut all = vec![table_s(), waiting()];
     all.extend((0..4).map(largest));
     all.push(random_bytes());
     let mut numbers: Vec<u8> = (1..=95).collect();

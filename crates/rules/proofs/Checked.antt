@@ -9,11 +9,12 @@ use Rattle.rules.specs.Record.{recordFault, checkedStep}
 use Rattle.rules.specs.History.{lineAfter, events}
 use Rattle.rules.specs.Safety.{StaysSound}
 
-sound-here : (l : Line) → StaysSound l → recordFault l ≡ false
+-- So it is on the line itself, and after each step.
+pub sound-here : (l : Line) → StaysSound l → recordFault l ≡ false
 unfolding lineAfter
 sound-here l h = h []
 
-sound-next : (l : Line) → StaysSound l → (s : Step) → StaysSound (step l s .line)
+pub sound-next : (l : Line) → StaysSound l → (s : Step) → StaysSound (step l s .line)
 unfolding lineAfter
 sound-next l h s steps = h (s ∷ steps)
 

@@ -23,14 +23,14 @@ use Rattle.rules.specs.RunCases.{runCases, lentCases}
 abbrev pub startS : Line
 startS = startLine (decode tableS)
 
+-- A train by its fields, in their order.
 abbrev pub made : ℕ → ℕ → ℕ → ℕ → Bool → Bool → Bool → Message → Train
 made d r place covered near far lock g =
     record { direction = d; length = r; place = place; covered = covered; near = near; far = far; lock = lock; message = g }
 
 abbrev pub withTrain : ℕ → ℕ → ℕ → ℕ → Message → Line
 withTrain d r place covered g =
-    putTrain startS 1
-    (made d r place covered false false false g)
+    putTrain startS 1 (made d r place covered false false false g)
 
 abbrev pub withBox : ℕ → ℕ → ℕ → ℕ → ℕ → ℕ → Line
 withBox b x lock stem left right =
@@ -130,16 +130,14 @@ asking g lock stem left =
 abbrev pub heldByOther : Line
 heldByOther =
     putBox
-    (putTrain startS 1
-    (made 0 3 2 2 true false true Idle))
+    (putTrain startS 1 (made 0 3 2 2 true false true Idle))
     2
     (record { sensor = true; position = 2; lock = 2; stem = 2; left = 2; right = 2 })
 
 abbrev pub openAtEnter : Line
 openAtEnter =
     putBox
-    (putTrain startS 1
-    (made 0 3 1 1 true true true (Sent (Reserve 2))))
+    (putTrain startS 1 (made 0 3 1 1 true true true (Sent (Reserve 2))))
     2
     (record { sensor = false; position = 1; lock = 2; stem = 0; left = 2; right = 0 })
 

@@ -4,7 +4,7 @@ use Prim.Native.Nat.{ℕ, suc, _+_, _-_, _/_, _≤_, _<_}
 use mathlib.Core.Path.{_≡_, refl, sym, _∙_, ap}
 use mathlib.Core.Logic.{_≢_}
 use mathlib.Core.Bool.{Bool, true, false}
-use mathlib.Core.List.{List, [], _∷_}
+use mathlib.Core.List.{List}
 use native.Mathlib.Omega.{arith}
 use borrow.Author.Tests.{ne-eqb}
 use lib.ListN.{length, getD, set, length-set}
@@ -21,12 +21,12 @@ use Rattle.rules.specs.Track.{noBoxPlan, planAt, trackOf, trackIn, pointAt, poi
 use Rattle.rules.specs.Line.{noBox, noTrain, aroundOn, aroundTrain, around, boxAt, trainAt, putTrain, putBox, messageBox}
 use Rattle.rules.specs.Steps.{Step, apply, enter, clear, boxAnswers, alone, formed, formRows, concernedBox, effect, step}
 use Rattle.rules.specs.Record.{recordFault}
-use Rattle.rules.specs.History.{lineAfter}
 use Rattle.rules.specs.Safety.{TrainOf, StaysSound}
 use Rattle.rules.specs.Run.{stepCount}
 use Rattle.rules.proofs.Tests.{outside-false-iff}
 use Rattle.rules.proofs.Accepted.{BoxOf}
 use Rattle.rules.proofs.Steps.{form-row-iff, boxHere, effectHere, step-unformed, step-unknown, step-taken}
+use Rattle.rules.proofs.Checked.{sound-here, sound-next}
 use Rattle.rules.proofs.Settled.{around-alike}
 use Rattle.rules.proofs.Staying.{Stays, stays-alike}
 use Rattle.rules.proofs.Concerned.{ahead-there, passed-there, asked-there, concerned-there, unasked, box-room, train-room}
@@ -134,20 +134,18 @@ module _ {a b kinds routes : List ℕ} {t : Table} {l₀ : Line} {bytes before :
   abbrev Next : List SwitchBox → List Train → List Around → ℕ → Type 0
   Next boxes′ trains′ seen′ c = Between a b kinds routes t l₀ bytes before boxes′ trains′ seen′ (set answers n c) (n + 1)
 
-  pub sound-here : recordFault here ≡ false
-  unfolding lineAfter
-  sound-here = h .sound []
+  pub line-sound : recordFault here ≡ false
+  line-sound = sound-here here (h .sound)
 
   -- A turn whose code and line are those of the step.
   turn-to : (c : ℕ) (boxes′ : List SwitchBox) (trains′ : List Train) (seen′ : List Around) → length trains′ ≡ 16 → Seen (aroundTrain t routes) trains′ seen′ 16
       → record { code = c; line = standing t boxes′ trains′ routes } ≡ step here taken
       → Between a b kinds routes t l₀ bytes before boxes′ trains′ seen′ (set answers n c) (n + 1)
-  unfolding lineAfter
   turn-to c boxes′ trains′ seen′ places looked e =
       let line : step here taken .line ≡ standing t boxes′ trains′ routes = sym (ap (λ (o : Outcome). o .line) e) in
       record {
         shown = h .shown;
-        sound = λ steps. rw line at (h .sound (taken ∷ steps));
+        sound = rw line at (sound-next here (h .sound) taken);
         places = places;
         looked = looked;
         room = rw length-set (h .room);
@@ -172,38 +170,38 @@ module _ {a b kinds routes : List ℕ} {t : Table} {l₀ : Line} {bytes before :
   module _ (i : ℕ) (w : Taken t taken i) where
     index-low : i < 16
     index-low =
-        let (low, high) = train-within here taken i sound-here w in
+        let (low, high) = train-within here taken i line-sound w in
         omega (arith, w .index)
 
     there : TrainOf t (taken .train)
-    there = train-there here taken i sound-here w
+    there = train-there here taken i line-sound w
 
     abbrev viewHere : Around
     viewHere = getD seen i noAround
 
     viewed : viewHere ≡ around here (taken .train)
     unfolding around trainAt nth
-    viewed = rw (numbered here taken i sound-here w) (h .looked .is i index-low)
+    viewed = rw (numbered here taken i line-sound w) (h .looked .is i index-low)
 
     abbrev trainHere : Train
     trainHere = getD trains i noTrain
 
     -- The box ahead, the box passed and the box of a message are there.
     pub ahead-within : (1 ≤ viewHere .ahead) × (viewHere .ahead ≤ 96)
-    ahead-within = rw viewed (within here taken i sound-here w viewHere viewed (ahead-there here sound-here _ there))
+    ahead-within = rw viewed (within here taken i line-sound w viewHere viewed (ahead-there here line-sound _ there))
 
     pub passed-within : (1 ≤ viewHere .passed) × (viewHere .passed ≤ 96)
-    passed-within = rw viewed (within here taken i sound-here w viewHere viewed (passed-there here sound-here _ there))
+    passed-within = rw viewed (within here taken i line-sound w viewHere viewed (passed-there here line-sound _ there))
 
     pub asked-within : (e : ℕ) → e ≡ messageBox (trainHere .message) → e ≢ 0 → (1 ≤ e) × (e ≤ 96)
     asked-within e e-is some =
-        let read = train-read here taken i sound-here w in
-        rw (e-is, read) (within here taken i sound-here w viewHere viewed (asked-there here sound-here _ there (rw (e-is, read) at some)))
+        let read = train-read here taken i line-sound w in
+        rw (e-is, read) (within here taken i line-sound w viewHere viewed (asked-there here line-sound _ there (rw (e-is, read) at some)))
 
     -- What is decided is the step, by the kind.
     decides : (e : ℕ) (d : Effect) → e ≡ concernedBox (taken .kind) viewHere trainHere
         → d ≡ effect (taken .kind) (taken .box) viewHere trainHere (planAt t e) (boxAt here e) → Turned here taken i e d
-    decides = turned here taken i sound-here w viewHere viewed
+    decides = turned here taken i line-sound w viewHere viewed
 
     pub turned-answer : (e j : ℕ) → taken .kind ≡ 3 → e ≡ messageBox (trainHere .message) → e ≢ 0 → j ≡ e - 1 → (d : Effect)
         → d ≡ boxAnswers viewHere trainHere (getD (t .boxes) j noBoxPlan) (getD boxes j noBox) (trainHere .message) → Turned here taken i (suc j) d
@@ -215,10 +213,10 @@ module _ {a b kinds routes : List ℕ} {t : Table} {l₀ : Line} {bytes before :
     pub turned-unasked : (e : ℕ) → taken .kind ≡ 3 → e ≡ messageBox (trainHere .message) → e ≡ 0 → Turned here taken i 0 (Refused 21)
     unfolding concernedBox effect
     turned-unasked e kind e-is none =
-        let read = train-read here taken i sound-here w in
+        let read = train-read here taken i line-sound w in
         let box : messageBox (trainHere .message) ≡ 0 = sym e-is ∙ none in
         decides 0 (Refused 21) (rw (kind, box))
-        (rw (kind, read) (unasked here sound-here _ there viewHere (planAt t 0) (boxAt here 0) (rw read at box)))
+        (rw (kind, read) (unasked here line-sound _ there viewHere (planAt t 0) (boxAt here 0) (rw read at box)))
 
     pub turned-enter : (j : ℕ) → taken .kind ≡ 5 → j ≡ viewHere .ahead - 1 → (d : Effect)
         → d ≡ enter viewHere trainHere (getD boxes j noBox) → Turned here taken i (suc j) d
@@ -268,4 +266,4 @@ module _ {a b kinds routes : List ℕ} {t : Table} {l₀ : Line} {bytes before :
     unfolding apply putTrain putBox setNth
     turn-moved z e v v-is =
         turn-to _ _ _ _ (changed-places _)
-        (seen-moved (h .looked) (h .places) i index-low _ v (rw (h .shown, numbered here taken i sound-here w) at v-is)) (rw e at (z .is))
+        (seen-moved (h .looked) (h .places) i index-low _ v (rw (h .shown, numbered here taken i line-sound w) at v-is)) (rw e at (z .is))

@@ -11,7 +11,7 @@ use Rattle.rules.proofs.Rows.{length-mapped}
 use Rattle.rules.proofs.Staying.{alone-stays, answer-stays}
 use Rattle.running.specs.Loop.{standing}
 use Rattle.running.proofs.Running.{stepAt, running-start, running-room, running-line, running-whole, running-partial}
-use Rattle.running.proofs.Turn.{around-shown, Taken, takes, taken-at, Turned, train-within, Between, sound-here, turn-unformed, turn-unknown, ahead-within, passed-within, asked-within, turned-answer, turned-unasked, turned-enter, turned-clear, turned-alone, turn-refused, turn-answered, turn-alone, turn-moved}
+use Rattle.running.proofs.Turn.{around-shown, Taken, takes, taken-at, Turned, train-within, Between, line-sound, turn-unformed, turn-unknown, ahead-within, passed-within, asked-within, turned-answer, turned-unasked, turned-enter, turned-clear, turned-alone, turn-refused, turn-answered, turn-alone, turn-moved}
 use Rattle.running.proofs.steps.advance.Statement.{statement}
 use Rattle.running.proofs.steps.advance.Tie as tie
 
@@ -170,7 +170,7 @@ loop-again-2 c =
 train-index-requires : tie.Need-train-index-requires Inv-loop μ-loop
 train-index-requires c κs =
     let begun = c .before .before .before .before .before .before .before in
-    train-within _ _ _ (sound-here (begun .before .loop .inv) (begun .loop-test .taken)) (passed c)
+    train-within _ _ _ (line-sound (begun .before .loop .inv) (begun .loop-test .taken)) (passed c)
 
 box-index-requires : tie.Need-box-index-requires Inv-loop μ-loop
 box-index-requires c κs =

@@ -5,9 +5,10 @@ ghost use mathlib.Core.Path.{_≡_};
 ghost use Rattle.rules.specs.File.{fileCode};
 ghost use Rattle.rules.specs.Record.{checkedStep};
 ghost use Rattle.rules.specs.Run.{run, answered};
-ghost use Rattle.rules.specs.Printout.{printCode, printLength, printedText, printedAnswers};
+ghost use Rattle.rules.specs.Printout.{printCode, printedText, printedAnswers};
 ghost use Rattle.lineengine.specs.WriteBack.{writeBackCode, writtenBack};
 ghost use Rattle.lineengine.specs.Safe.{SafelyAnswered};
+ghost use Rattle.lineengine.specs.Print.{printedSize};
 
 // The code of a table file: 0, or the first of 1 to 12 that refuses it.
 #[no_mangle]
@@ -32,7 +33,7 @@ pub extern "C" fn lineengine_run(table: &[u8], steps: &[u8], answers: &mut [u8])
 }
 
 // The printout of a table file and an input, at the front of the lent text, its length, and the codes of the steps in the
-// answers. With code 26, where a buffer is too short, both are as they were and the length is 0. A refused table prints its code.
+// answers. With code 26, where a buffer is too short, all three are as they were. A refused table prints its code.
 #[no_mangle]
 pub extern "C" fn lineengine_print(
     table: &[u8],
@@ -42,13 +43,17 @@ pub extern "C" fn lineengine_print(
     size: &mut usize,
 ) -> u8
     ensures { λ r. ⌜ r ≡ printCode (now (input .entry)) (now (answers .entry)) (now (text .entry)) ⌝ }
-    ensures { λ r. ⌜ now (size .exit) ≡ printLength (now (table .entry)) (now (input .entry)) (now (answers .entry)) (now (text .entry)) ⌝ }
+    ensures { λ r. ⌜ now (size .exit) ≡ printedSize (now (table .entry)) (now (input .entry)) (now (answers .entry)) (now (text .entry)) (now (size .entry)) ⌝ }
     ensures { λ r. ⌜ now (text .exit) ≡ printedText (now (table .entry)) (now (input .entry)) (now (answers .entry)) (now (text .entry)) ⌝ }
     ensures { λ r. ⌜ now (answers .exit) ≡ printedAnswers (now (table .entry)) (now (input .entry)) (now (answers .entry)) (now (text .entry)) ⌝ }
 {
     let printed = printout::print(table, input, answers, text);
+    let code = printed.code;
+    if code != 0 {
+        return code;
+    }
     *size = printed.length;
-    printed.code
+    0
 }
 
 // Reads a table file and writes its table to the front of the lent buffer: the bytes of the file. The code is the file's, then 26

@@ -91,11 +91,12 @@ trainPlanIn bytes i =
     let at = trainStart bytes i in
     record { direction = byteAt bytes at; length = byteAt bytes (at + 1) }
 
--- The route of train i, as the part of the file that it is.
+-- The route of train i, as the part of the file that it is: where it begins, and its bytes.
+abbrev pub routeStart : List ℕ → ℕ → ℕ
+routeStart bytes i = trainStart bytes i + trainSize (versionIn bytes)
+
 unfoldable pub routeIn : List ℕ → ℕ → List ℕ
-routeIn bytes i =
-    let at = trainStart bytes i in
-    take (byteAt bytes (at + 1)) (drop (at + trainSize (versionIn bytes)) bytes)
+routeIn bytes i = take (byteAt bytes (trainStart bytes i + 1)) (drop (routeStart bytes i) bytes)
 
 -- The table record of a file. Of a route only 64 places are kept: a longer one is refused by its length, with 10.
 unfoldable pub decode : List ℕ → Table
@@ -123,12 +124,16 @@ earlyRows bytes =
 unfoldable pub fileCode : List ℕ → ℕ
 fileCode bytes = first (earlyRows bytes ++ conditionRows (decode bytes))
 
--- The route of train i as a part of the file: the file's code, then 14 for a train 0 or above k; the part is empty with both.
+-- The route of train i as a part of the file: the file's code, then 14 for a train 0 or above k; with both the part is empty, at
+-- the file's beginning.
 unfoldable pub routeCode : List ℕ → ℕ → ℕ
 routeCode bytes i = first (fileCode bytes if not (eqb (fileCode bytes) 0) ∷ 14 if outside (trainCount bytes) i ∷ [])
 
 unfoldable pub routePart : List ℕ → ℕ → List ℕ
 routePart bytes i = cond (eqb (routeCode bytes i) 0) (routeIn bytes i) []
+
+unfoldable pub routeFrom : List ℕ → ℕ → ℕ
+routeFrom bytes i = cond (eqb (routeCode bytes i) 0) (routeStart bytes i) 0
 
 -- The bytes of a table record.
 unfoldable pub headBytes : Table → List ℕ

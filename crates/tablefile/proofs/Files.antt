@@ -11,7 +11,7 @@ use lib.Seq.{getD-drop, drop-drop}
 use Rattle.rules.specs.declared.Table.{Table}
 use Rattle.rules.specs.Rows.{first, outside}
 use Rattle.rules.specs.Placing.{tableCode}
-use Rattle.rules.specs.File.{byteAt, trainCount, trainsFrom, fileCode, decode, routeCode, routePart}
+use Rattle.rules.specs.File.{byteAt, trainCount, trainsFrom, trainStart, trainSize, fileCode, decode, routeCode, routePart, routeFrom}
 use Rattle.rules.specs.Line.{emptyTable}
 use Rattle.rules.proofs.Tests.{or-right, outside-false-iff, first-zero-iff, first-code-iff}
 use Rattle.tablefile.specs.declared.FileTable.{FileTable}
@@ -97,6 +97,10 @@ module _ (bytes : List ℕ) where
     unfolding routePart
     part-none n = rw (ne-eqb _ _ n)
 
+    pub from-none : (routeCode bytes i ≡ 0 → ⊥) → 0 ≡ routeFrom bytes i
+    unfolding routeFrom
+    from-none n = rw (ne-eqb _ _ n)
+
     module _ (z : routeCode bytes i ≡ 0) where
       pub within : (fileCode bytes ≡ 0) × ((1 ≤ i) × (i ≤ trainCount bytes))
       unfolding routeCode
@@ -116,6 +120,10 @@ module _ (bytes : List ℕ) where
 
       pub part-place : trainsFrom bytes (i - 1) ≤ length bytes
       part-place = omega (arith, room)
+
+      pub from-some : trainsFrom bytes (i - 1) + 2 ≡ routeFrom bytes i
+      unfolding routeFrom trainStart trainSize
+      from-some = rw (eq-eqb _ _ z) refl
 
       -- The file from that record on: the route is within it.
       module _ (rest : List ℕ) (e : rest ≡ drop (trainsFrom bytes (i - 1)) bytes) where

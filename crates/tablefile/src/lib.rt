@@ -8,9 +8,10 @@ use rules::Segment;
 use rules::Table;
 use rules::TrainPlan;
 ghost use mathlib.Core.Path.{_≡_};
-ghost use Rattle.rules.specs.File.{routeCode, routePart};
+ghost use Rattle.rules.specs.File.{routeCode, routePart, routeFrom};
 ghost use Rattle.rules.specs.Line.{emptyTable};
 ghost use Rattle.tablefile.specs.Whole.{fileTable};
+ghost use Rattle.tablefile.specs.Part.{placeAfter};
 
 // A file's code, and its table where codes 1 to 5 let the file through.
 pub struct FileTable {
@@ -57,7 +58,7 @@ pub fn read_table(bytes: &[u8]) -> FileTable
 }
 
 // The code of a train's route: the file's code, then 14.
-pub fn route_code(bytes: &[u8], train: u8) -> u8
+fn route_code(bytes: &[u8], train: u8) -> u8
     ensures { λ r. ⌜ r ≡ routeCode (now (bytes .entry)) train ⌝ }
 {
     let file = read_table(bytes);
@@ -75,11 +76,15 @@ pub fn route_code(bytes: &[u8], train: u8) -> u8
     0
 }
 
-// The route of a train as a part of the lent file, empty where it is refused.
-pub fn route(bytes: &[u8], train: u8) -> &[u8]
+// The route of a train as a part of the lent file, and its code. With a code the part is empty.
+pub fn route<'a>(bytes: &'a [u8], train: u8, code: &mut u8) -> &'a [u8]
+    ensures { λ r. ⌜ now (code .exit) ≡ routeCode (now (bytes .entry)) train ⌝ }
+    ensures { λ r. ⌜ r .ptr ≡ placeAfter (bytes .entry .ptr) (routeFrom (now (bytes .entry)) train) ⌝ }
     ensures { λ r. ⌜ now r ≡ routePart (now (bytes .entry)) train ⌝ }
 {
-    if route_code(bytes, train) != 0 {
+    let refused = route_code(bytes, train);
+    *code = refused;
+    if refused != 0 {
         return &bytes[0..0];
     }
     let n = bytes[5];

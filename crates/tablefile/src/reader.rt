@@ -9,10 +9,11 @@ use rules::TrainPlan;
 ghost use mathlib.Core.Path.{_≡_};
 ghost use Prim.Native.Nat.{_+_, _*_, _≤_, _<_, _^_};
 ghost use lib.Dec.{eqb};
-ghost use lib.ListN.{length, drop};
+ghost use lib.ListN.{length};
 ghost use Rattle.rules.specs.File.{trainsFrom, decode};
 ghost use Rattle.tablefile.specs.Whole.{segmentsOf, boxesOf, trainsOf, routesOf};
 ghost use Rattle.tablefile.specs.Places.{AtSegments, AtBoxes, AtTrains, TrainsAt, Counts, Headed};
+ghost use Rattle.tablefile.specs.Part.{RestOf};
 
 pub(crate) struct TableReader<'a> {
     pub(crate) bytes: &'a [u8],
@@ -86,7 +87,7 @@ fn at_end<'a>(r: TableReader<'a>) -> bool
 // What is left of the file.
 fn left<'a>(r: TableReader<'a>) -> &'a [u8]
     requires { ⌜ r .at ≤ length (now (r .bytes)) ⌝ }
-    ensures { λ s. ⌜ now s ≡ drop (r .entry .at) (now (r .entry .bytes)) ⌝ }
+    ensures { λ s. ⌜ RestOf (r .entry .bytes) (r .entry .at) s ⌝ }
 {
     records::rest(r.bytes, r.at)
 }
@@ -134,7 +135,7 @@ pub(crate) fn ends_with_trains(bytes: &[u8], n: u8, m: u8, k: u8) -> bool
 // The file from the train record behind the first `count` of them on.
 pub(crate) fn from_train(bytes: &[u8], n: u8, m: u8, count: u8) -> &[u8]
     requires { ⌜ Counts (now bytes) n m × (trainsFrom (now bytes) count ≤ length (now bytes)) ⌝ }
-    ensures { λ s. ⌜ now s ≡ drop (trainsFrom (now (bytes .entry)) count) (now (bytes .entry)) ⌝ }
+    ensures { λ s. ⌜ RestOf (bytes .entry) (trainsFrom (now (bytes .entry)) count) s ⌝ }
 {
     left(behind_trains(bytes, n, m, count))
 }

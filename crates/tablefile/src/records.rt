@@ -10,6 +10,7 @@ ghost use lib.Seq.{sets};
 ghost use Rattle.rules.specs.File.{byteAt, trainsFrom};
 ghost use Rattle.tablefile.specs.Whole.{segmentsOf, boxesOf, trainsOf, routesOf};
 ghost use Rattle.tablefile.specs.Places.{AtSegments, AtBoxes, AtTrains, TrainsAt};
+ghost use Rattle.tablefile.specs.Part.{RestOf};
 
 // The segments, of which the first begins at `from`.
 pub(crate) fn segments(bytes: &[u8], from: usize) -> [Segment; 96]
@@ -162,7 +163,7 @@ pub(crate) fn ends(bytes: &[u8], at: usize) -> bool
 // The file from a place on.
 pub(crate) fn rest(bytes: &[u8], at: usize) -> &[u8]
     requires { ⌜ at ≤ length (now bytes) ⌝ }
-    ensures { λ r. ⌜ now r ≡ drop at (now (bytes .entry)) ⌝ }
+    ensures { λ r. ⌜ RestOf (bytes .entry) at r ⌝ }
 {
     &bytes[at..]
 }

@@ -6,12 +6,16 @@ use borrow.Author.Needs.{needs}
 use lib.ListN.{length, getD}
 use Rattle.rules.specs.File.{byteAt, segmentCount, boxCount, routeCode}
 use Rattle.tablefile.proofs.Parts.{whole-boxes}
-use Rattle.tablefile.proofs.Files.{within, part-none, part-whole, part-place, part-room, part-some}
+use Rattle.tablefile.proofs.Placed.{placed, placed-further}
+use Rattle.tablefile.proofs.Files.{within, part-none, from-none, part-whole, part-place, part-room, part-some, from-some}
 use Rattle.tablefile.proofs.route.Statement.{statement}
 use Rattle.tablefile.proofs.route.Tie as tie
 
 returns : tie.Need-returns
-returns c = part-none _ _ (λ e. c .before .if1 .taken (c .before .before .route-code .ensures ∙ e))
+returns c =
+    let code = c .before .before .route-code .ensures in
+    let refused : routeCode _ _ ≡ 0 → ⊥ = λ e. c .before .if1 .taken (code ∙ e) in
+    (code, (placed _ _ 0 (from-none _ _ refused), part-none _ _ refused))
 
 -- The route's code is 0 past the test.
 taken : (c : tie.Else1) → routeCode (c .before .before .before .args .bytes .now) (c .before .before .before .args .train) ≡ 0
@@ -34,13 +38,17 @@ from-train-requires c κs = (record { segments = refl; boxes = refl }, part-plac
 room : (c : tie.After-from-train) →
     let rest = c .from-train .result .now in
     2 + getD rest 1 0 ≤ length rest
-room c = part-room _ _ (taken (c .before .before .before)) _ (c .from-train .ensures)
+room c = part-room _ _ (taken (c .before .before .before)) _ (c .from-train .ensures .left)
 
 returns-2 : tie.Need-returns-2
 returns-2 c =
     let f = c .before .before in
     let size = getD (f .from-train .result .now) 1 0 in
-    part-some _ _ (taken (f .before .before .before)) _ (f .from-train .ensures) (2 + size - 2) (omega arith)
+    let z = taken (f .before .before .before) in
+    let rest = f .from-train .ensures in (
+      f .before .before .before .before .route-code .ensures,
+      (placed-further _ _ _ _ 2 (rest .place) (from-some _ _ z), part-some _ _ z _ (rest .left) (2 + size - 2) (omega arith)),
+    )
 
 pub route-spec : {M : Type 1} → statement M
 route-spec =

@@ -1,8 +1,7 @@
 -- The reader behind the first trains of the file is asked for what is left (`Trains.antt`).
-use mathlib.Core.Path.{_≡_}
 use Prim.Native.Nat.{_≤_}
 use mathlib.Core.List.{[], _∷_}
-use lib.ListN.{length, drop}
+use lib.ListN.{length}
 use mir.Syntax.{named}
 use base.Logic.{emp, id⊢}
 use contract.Monad.{factI}
@@ -12,6 +11,7 @@ use denote.Ref.{now}
 use denote.Slice.{shr-slice-lawful}
 use Rattle.rules.specs.File.{trainsFrom}
 use Rattle.tablefile.specs.Places.{Counts}
+use Rattle.tablefile.specs.Part.{RestOf}
 use Rattle.tablefile.proofs.reader.FileGiven.{fileTy}
 use Rattle.tablefile.proofs.reader.Trains.{goes-on}
 use Rattle.tablefile.proofs.reader.left as called
@@ -30,7 +30,7 @@ from-train-spec 𝓤 H 𝓜 𝓖 𝓡 =
     (own.clauses 𝓤 H (𝓖 .A) (𝓜 .mem) (𝓡 .run)) (called.clauses 𝓤 H (𝓖 .A) (𝓜 .mem) (𝓡 .run))
     record {
       Asked = λ b n m k. Counts (now b) n m × (trainsFrom (now b) k ≤ length (now b));
-      Told = λ κs b k s. now s ≡ drop (trainsFrom (now b) k) (now b);
+      Told = λ κs b k s. RestOf b (trainsFrom (now b) k) s;
       ghost = λ κs b n m k g. g;
       asked = λ κs b n m k g. id⊢ 𝓤 _;
       counts = λ b n m k asked. asked .0;

@@ -1,163 +1,175 @@
-//! Switches that make the same engine wrong in one named way.
+//! Switches that make the same engine wrong in one named way. docs/FAULTS.md is the list of them, made from this file.
 
 macro_rules! faults {
-    ($($(#[$doc:meta])* $name:ident),* $(,)?) => {
+    ($($group:literal { $($(#[doc = $doc:literal])+ $name:ident),* $(,)? })*) => {
         /// One fault. `None` is the right engine.
         #[derive(Clone, Copy, Debug, PartialEq, Eq)]
         pub enum Fault {
             /// No fault.
             None,
-            $($(#[$doc])* $name),*
+            $($($(#[doc = $doc])+ $name,)*)*
         }
 
         /// All faults, without `None`.
-        pub const FAULTS: &[Fault] = &[$(Fault::$name),*];
+        pub const FAULTS: &[Fault] = &[$($(Fault::$name,)*)*];
+
+        /// The faults by groups: a heading, and each fault with what it makes wrong, which is its doc comment.
+        pub const GROUPS: &[(&str, &[(Fault, &str)])] =
+            &[$(($group, &[$((Fault::$name, concat!($($doc),+))),*])),*];
     };
 }
 
 faults! {
-    // Errors the scope paper names.
-    /// Enter with next recorded at one of its ends, whichever.
-    OneEndEnough,
-    /// Clear frees the front at the far box too.
-    ClearFreesFarEnd,
-    /// The holding is recorded when the request is sent.
-    RecordedWhenSent,
-    /// The holding is recorded when the box grants it.
-    RecordedWhenGranted,
-    /// The lock is freed when the front has passed.
-    LockFreedAtEnter,
-    /// Reader: a branch on the stem's side is accepted.
-    BranchOnStemSide,
-    // Programs the scope paper names.
-    /// No move is ever accepted.
-    EveryTrainStands,
-    /// The boxes always say no.
-    BoxesAlwaysNo,
-    /// The box grants at sending; its answer is a show.
-    GrantAtSending,
-    /// 22 at odd boxes where nobody holds the segment.
-    No22WithoutHolder,
-    /// 24 at odd boxes where nobody holds the lock.
-    No24WithoutHolder,
-    /// Every step is answered 0, with the right effect.
-    OneCodeAccepts,
-    /// Every step is answered 13, with no effect.
-    OneCodeRefuses,
-    /// Reader: every table is turned away.
-    ReaderRefusesAll,
-    /// Clear makes the train single and frees nothing.
-    ClearFreesNothing,
-    // Further errors: start.
-    /// The first segment is not reserved at the box ahead.
-    StartUnreserved,
-    /// The first segment is reserved at the box behind as well.
-    StartReservesBehind,
-    // Steps and requests.
-    /// A box byte in kinds 3 to 6 is not looked at.
-    BoxByteIgnored,
-    /// 14 is looked at before 13.
-    TrainBeforeKind,
-    /// A new request replaces an open message.
-    OpenMessageIgnored,
-    /// 16 is looked at before 15.
-    NextBeforeMessage,
-    /// A crossing train may not ask.
-    CrossingMayNotAsk,
-    /// 18 is looked at before 16 and 17.
-    RecordedBeforePlace,
-    /// What is recorded may be asked for again.
-    AskedAgain,
-    // Answers.
-    /// A box answers an answered message once more.
-    AnswersAgain,
-    /// A reservation is given whoever holds it.
-    ReservationTakenOver,
-    /// 22 also where the train itself holds the segment.
-    OwnSegmentRefused,
-    /// A lock is given though the sensor is active.
-    SensorNotAsked,
-    /// A lock is given though another holds it.
-    LockTakenOver,
-    /// 24 is looked at before 23.
-    LockBeforeSensor,
-    /// 25 is looked at before 23 and 24.
-    ReservationsFirst,
-    /// A lock is given without reservations.
-    LockNeedsNoReservation,
-    /// A lock is given without the front reserved.
-    LockNeedsNextOnly,
-    /// A lock is given without next reserved.
-    LockNeedsFrontOnly,
-    /// A lock is always given.
-    LockAlwaysGiven,
-    /// A reservation is set at both ends of next.
-    ReservesBothEnds,
-    /// The lock leaves the position as it was.
-    PositionNotSet,
-    /// The lock sets the other position.
-    PositionTurned,
-    /// The lock looks for next alone: right branch 2, else 1.
-    PositionByNextOnly,
-    /// The position is set at Enter, not with the lock.
-    PositionSetAtEnter,
-    // Hearing.
-    /// The holding is recorded at the grant; hearing only ends the message.
-    GrantIsHearing,
-    /// A no ends the message at once, there is nothing to hear.
-    NoNeedsNoHearing,
-    /// A message not answered yet is heard as a yes.
-    HearsUnanswered,
-    /// A no is recorded as a holding.
-    NoHeardAsYes,
-    /// A no that was heard leaves the message open.
-    NoStaysOpen,
-    /// Hearing a no gives 0, not its code.
-    NoHeardIsZero,
-    // Moves.
-    /// Enter with next recorded at the box ahead alone.
-    NearEndEnough,
-    /// Enter at a point without the lock.
-    PointNeedsNoLock,
-    /// Enter at a link needs a lock.
-    LinkNeedsLock,
-    /// Enter is accepted while crossing.
-    EnterWhileCrossing,
-    /// 16 is looked at before 20 at Enter.
-    NextBeforeCrossing,
-    /// A train with an open message may not move (15).
-    OpenMessageHoldsTrain,
-    /// Enter leaves the sensor passive.
-    SensorStaysPassive,
-    /// Clear leaves the lock.
-    ClearKeepsLock,
-    /// Clear frees the tail at the box passed, not the front.
-    ClearFreesTailOnly,
-    /// Clear frees all three reservations of the box passed.
-    ClearFreesWholeBox,
-    /// Clear leaves the train's records (no step can tell).
-    RecordsKept,
-    // Reader.
-    /// Loops are accepted.
-    LoopTaken,
-    /// Bytes after the last record are accepted.
-    TrailingBytesTaken,
-    /// Two trains with one first segment are accepted.
-    SameFirstTaken,
-    /// Routes may jump.
-    BrokenRouteTaken,
-    /// Routes are checked in direction 0 only.
-    RouteDirectionIgnored,
-    /// A segment end whose box does not list it is accepted.
-    UnlistedEndTaken,
-    /// 10 and 11 are looked at train by train.
-    TrainByTrain,
-    /// 12 is looked at before 11.
-    FirstBeforeRoute,
-    /// 9 is looked at before 8.
-    LoopBeforeListing,
-    /// A route length outside 1 to 64 is looked at before the file length.
-    RouteLengthBeforeFileLength,
+    "Errors that 01 names" {
+        /// Enter with next recorded at one of its ends, whichever.
+        OneEndEnough,
+        /// Clear frees the front at the far box too.
+        ClearFreesFarEnd,
+        /// The holding is recorded when the request is sent.
+        RecordedWhenSent,
+        /// The holding is recorded when the box grants it.
+        RecordedWhenGranted,
+        /// The lock is freed when the front has passed.
+        LockFreedAtEnter,
+        /// Reader: a branch on the stem's side is accepted.
+        BranchOnStemSide,
+    }
+    "Programs that 01 names" {
+        /// No move is ever accepted.
+        EveryTrainStands,
+        /// The boxes always say no.
+        BoxesAlwaysNo,
+        /// The box grants at sending; its answer is a show.
+        GrantAtSending,
+        /// 22 at odd boxes where nobody holds the segment.
+        No22WithoutHolder,
+        /// 24 at odd boxes where nobody holds the lock.
+        No24WithoutHolder,
+        /// Every step is answered 0, with the right effect.
+        OneCodeAccepts,
+        /// Every step is answered 13, with no effect.
+        OneCodeRefuses,
+        /// Reader: every table is turned away.
+        ReaderRefusesAll,
+        /// Clear makes the train single and frees nothing.
+        ClearFreesNothing,
+    }
+    "Start" {
+        /// The first segment is not reserved at the box ahead.
+        StartUnreserved,
+        /// The first segment is reserved at the box behind as well.
+        StartReservesBehind,
+    }
+    "Steps and requests" {
+        /// A box byte in kinds 3 to 6 is not looked at.
+        BoxByteIgnored,
+        /// 14 is looked at before 13.
+        TrainBeforeKind,
+        /// A new request replaces an open message.
+        OpenMessageIgnored,
+        /// 16 is looked at before 15.
+        NextBeforeMessage,
+        /// A crossing train may not ask.
+        CrossingMayNotAsk,
+        /// 18 is looked at before 16 and 17.
+        RecordedBeforePlace,
+        /// What is recorded may be asked for again.
+        AskedAgain,
+    }
+    "Answers" {
+        /// A box answers an answered message once more.
+        AnswersAgain,
+        /// A reservation is given whoever holds it.
+        ReservationTakenOver,
+        /// 22 also where the train itself holds the segment.
+        OwnSegmentRefused,
+        /// A lock is given though the sensor is active.
+        SensorNotAsked,
+        /// A lock is given though another holds it.
+        LockTakenOver,
+        /// 24 is looked at before 23.
+        LockBeforeSensor,
+        /// 25 is looked at before 23 and 24.
+        ReservationsFirst,
+        /// A lock is given without reservations.
+        LockNeedsNoReservation,
+        /// A lock is given without the front reserved.
+        LockNeedsNextOnly,
+        /// A lock is given without next reserved.
+        LockNeedsFrontOnly,
+        /// A lock is always given.
+        LockAlwaysGiven,
+        /// A reservation is set at both ends of next.
+        ReservesBothEnds,
+        /// The lock leaves the position as it was.
+        PositionNotSet,
+        /// The lock sets the other position.
+        PositionTurned,
+        /// The lock looks for next alone: right branch 2, else 1.
+        PositionByNextOnly,
+        /// The position is set at Enter, not with the lock.
+        PositionSetAtEnter,
+    }
+    "Hearing" {
+        /// The holding is recorded at the grant; hearing only ends the message.
+        GrantIsHearing,
+        /// A no ends the message at once, there is nothing to hear.
+        NoNeedsNoHearing,
+        /// A message not answered yet is heard as a yes.
+        HearsUnanswered,
+        /// A no is recorded as a holding.
+        NoHeardAsYes,
+        /// A no that was heard leaves the message open.
+        NoStaysOpen,
+        /// Hearing a no gives 0, not its code.
+        NoHeardIsZero,
+    }
+    "Moves" {
+        /// Enter with next recorded at the box ahead alone.
+        NearEndEnough,
+        /// Enter at a point without the lock.
+        PointNeedsNoLock,
+        /// Enter at a link needs a lock.
+        LinkNeedsLock,
+        /// Enter is accepted while crossing.
+        EnterWhileCrossing,
+        /// 16 is looked at before 20 at Enter.
+        NextBeforeCrossing,
+        /// A train with an open message may not move (15).
+        OpenMessageHoldsTrain,
+        /// Enter leaves the sensor passive.
+        SensorStaysPassive,
+        /// Clear leaves the lock.
+        ClearKeepsLock,
+        /// Clear frees the tail at the box passed, not the front.
+        ClearFreesTailOnly,
+        /// Clear frees all three reservations of the box passed.
+        ClearFreesWholeBox,
+        /// Clear leaves the train's records (no step can tell).
+        RecordsKept,
+    }
+    "Reader" {
+        /// Loops are accepted.
+        LoopTaken,
+        /// Bytes after the last record are accepted.
+        TrailingBytesTaken,
+        /// Two trains with one first segment are accepted.
+        SameFirstTaken,
+        /// Routes may jump.
+        BrokenRouteTaken,
+        /// Routes are checked in direction 0 only.
+        RouteDirectionIgnored,
+        /// A segment end whose box does not list it is accepted.
+        UnlistedEndTaken,
+        /// 10 and 11 are looked at train by train.
+        TrainByTrain,
+        /// 12 is looked at before 11.
+        FirstBeforeRoute,
+        /// 9 is looked at before 8.
+        LoopBeforeListing,
+        /// A route length outside 1 to 64 is looked at before the file length.
+        RouteLengthBeforeFileLength,
+    }
 }
 
 impl Fault {
@@ -180,3 +192,25 @@ impl Fault {
         )
     }
 }
+
+/// The text of docs/FAULTS.md.
+pub fn page() -> String {
+    let mut page = String::from(PAGE_HEAD);
+    for (heading, faults) in GROUPS {
+        page += &format!("\n## {heading}\n\n| Switch | What it makes wrong |\n|---|---|\n");
+        for (fault, wrong) in *faults {
+            page += &format!("| {fault:?} | {} |\n", wrong.trim());
+        }
+    }
+    page
+}
+
+const PAGE_HEAD: &str = "\
+# Fault switches of the second implementation
+
+Each switch makes the second implementation wrong in the one way named beside it. How many generated cases tell it from the right rules,
+and by what, is counted in docs/MEASURES.md (\"What tells each error from the right rules\"); what the counts show is said in
+reference/README.md. 01 is the scope paper.
+
+This page is what `reference/target/release/fault_list` prints, from reference/src/fault.rs; a test of reference/ compares them.
+";

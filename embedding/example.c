@@ -1,6 +1,7 @@
 /*
  * The line engine from C, on the folder of a sample: its table is checked, its steps are run and printed, and the table is written
- * back. Then a table with one byte changed and buffers that are too short are refused. Argument: the folder.
+ * back. Then calls without bytes or room, and a table with one byte changed and buffers that are too short are refused. Argument:
+ * the folder.
  */
 #include "lineengine.h"
 
@@ -29,13 +30,16 @@ static size_t load(const char *folder, const char *name, uint8_t *bytes, size_t 
 
 static void run_and_print(size_t table_length, size_t steps_length)
 {
-    size_t count = LINEENGINE_STEPS(steps_length), text_length;
+    size_t count = LINEENGINE_STEPS(steps_length), accepted = 0, text_length = 0;
     printf("run: %d\n", lineengine_run(table, table_length, steps, steps_length, answers, count));
     printf("codes:");
-    for (size_t i = 0; i < count; i++)
+    for (size_t i = 0; i < count; i++) {
         printf(" %d", answers[i]);
-    printf("\nprint: %d\n", lineengine_print(table, table_length, steps, steps_length, answers, count,
-                                             text, LINEENGINE_TEXT_ROOM(count), &text_length));
+        accepted += answers[i] == LINEENGINE_ACCEPTED;
+    }
+    printf("\naccepted: %zu of %zu\n", accepted, count);
+    printf("print: %d\n", lineengine_print(table, table_length, steps, steps_length, answers, count,
+                                           text, LINEENGINE_TEXT_ROOM(count), &text_length));
     fwrite(text, 1, text_length, stdout);
 }
 
@@ -45,12 +49,36 @@ static void write_back(size_t table_length)
     printf("same bytes: %s\n", memcmp(table, back, table_length) == 0 ? "yes" : "no");
 }
 
-/* Refusals leave every buffer as it was. */
+/* No table, no steps, no room: with length 0 a pointer may be NULL, each but that to the text's length. */
+static void nothing_passed(size_t table_length, size_t steps_length)
+{
+    size_t length = 99;
+    printf("without a table: %d %d %d\n", lineengine_check(NULL, 0),
+           lineengine_run(NULL, 0, steps, steps_length, answers, sizeof answers), lineengine_write_back(NULL, 0, back, sizeof back));
+    printf("run without steps: %d %d\n", lineengine_run(table, table_length, NULL, 0, answers, sizeof answers),
+           lineengine_run(table, table_length, NULL, 0, NULL, 0));
+    printf("without room: %d %d %d %d\n", lineengine_run(table, table_length, steps, steps_length, NULL, 0),
+           lineengine_print(table, table_length, steps, steps_length, NULL, 0, text, sizeof text, &length),
+           lineengine_print(table, table_length, steps, steps_length, answers, sizeof answers, NULL, 0, &length),
+           lineengine_write_back(table, table_length, NULL, 0));
+    if (length != 99)
+        printf("the length of a refused printout is now %zu\n", length);
+    printf("print without a table and steps: %d\n", lineengine_print(NULL, 0, NULL, 0, NULL, 0, text, sizeof text, &length));
+    fwrite(text, 1, length, stdout);
+    printf("print without steps: %d\n", lineengine_print(table, table_length, NULL, 0, NULL, 0, text, sizeof text, &length));
+    fwrite(text, 1, length, stdout);
+}
+
+/* Refusals leave all memory that was passed as it was. */
 static void refusals(size_t table_length, size_t steps_length)
 {
-    size_t count = LINEENGINE_STEPS(steps_length);
+    size_t count = LINEENGINE_STEPS(steps_length), length = 99;
     memset(answers, 99, count);
     printf("answers too short: %d\n", lineengine_run(table, table_length, steps, steps_length, answers, count - 1));
+    printf("text too short: %d\n", lineengine_print(table, table_length, steps, steps_length, answers, count,
+                                                    text, LINEENGINE_TEXT_ROOM(count) - 1, &length));
+    if (length != 99)
+        printf("the length of a refused printout is now %zu\n", length);
     printf("buffer too short: %d\n", lineengine_write_back(table, table_length, back, table_length - 1));
     table[table_length - 1] ^= 4;
     printf("last byte changed: %d\n", lineengine_check(table, table_length));
@@ -64,11 +92,13 @@ int main(int argc, char **argv)
     size_t table_length = load(folder, "net", table, sizeof table);
     size_t steps_length = load(folder, "steps", steps, sizeof steps);
     uint8_t code = lineengine_check(table, table_length);
+    printf("interface %d.%d\n", LINEENGINE_VERSION_MAJOR, LINEENGINE_VERSION_MINOR);
     printf("check: %d\n", code);
     if (code != LINEENGINE_ACCEPTED || steps_length == 0)
         return 1;
     run_and_print(table_length, steps_length);
     write_back(table_length);
+    nothing_passed(table_length, steps_length);
     refusals(table_length, steps_length);
     return 0;
 }

@@ -1,6 +1,7 @@
 /*
  * How many bytes of stack each function of the library takes on the folder of a sample: a thread with a marked stack calls it once, and
- * the marks that are gone are counted, less those that a thread without a call takes. Argument: the folder.
+ * the marks that are gone are counted, less those that a thread without a call takes. Exit status 1 where they are more than
+ * LINEENGINE_STACK. Argument: the folder.
  */
 #define _POSIX_C_SOURCE 200809L
 #include "lineengine.h"
@@ -84,10 +85,11 @@ int main(int argc, char **argv)
     const char *names[] = {"lineengine_check", "lineengine_run", "lineengine_print", "lineengine_write_back"};
     table_length = load(folder, "net", table, sizeof table);
     steps_length = load(folder, "steps", steps, sizeof steps);
-    size_t least = taken(nothing);
+    size_t least = taken(nothing), most = 0;
     for (int i = 0; i < 4; i++) {
-        size_t bytes = taken(calls[i]);
-        printf("%-22s %d %6zu\n", names[i], code, bytes - least);
+        size_t bytes = taken(calls[i]) - least;
+        printf("%-22s %d %6zu\n", names[i], code, bytes);
+        most = bytes > most ? bytes : most;
     }
-    return 0;
+    return most > LINEENGINE_STACK;
 }

@@ -1,8 +1,8 @@
 //! The line engine from Rust, on the folder of a sample: its table is checked, its steps are run and printed, and the table is
-//! written back. Then a table with one byte changed and buffers that are too short are refused. It prints what ../example.c
-//! prints. Argument: the folder.
+//! written back. Then calls without bytes or room, and a table with one byte changed and buffers that are too short are refused. It
+//! prints what ../example.c prints. Argument: the folder.
 
-use lineengine::{check, print, run, steps_in, text_room, write_back, Refusal};
+use lineengine::{check, code, print, run, steps_in, text_room, write_back, Refusal, VERSION};
 use std::fs::read;
 use std::io::Write;
 use std::path::Path;
@@ -11,45 +11,76 @@ fn main() -> Result<(), Box<dyn std::error::Error>> {
     let folder = std::env::args().nth(1).unwrap_or_else(|| ".".to_string());
     let table = read(Path::new(&folder).join("net"))?;
     let steps = read(Path::new(&folder).join("steps"))?;
-    println!("check: {}", code(check(&table)));
+    println!("interface {}.{}", VERSION.0, VERSION.1);
+    println!("check: {}", number(check(&table)));
     check(&table)?;
     run_and_print(&table, &steps)?;
     written_back(&table);
+    nothing_lent(&table, &steps)?;
     refusals(&table, &steps);
     Ok(())
 }
 
 /// The number of an outcome.
-fn code<T>(outcome: Result<T, Refusal>) -> u8 {
-    outcome.err().map_or(0, Refusal::code)
+fn number<T>(outcome: Result<T, Refusal>) -> u8 {
+    outcome.err().map_or(code::ACCEPTED, Refusal::code)
 }
 
 fn run_and_print(table: &[u8], steps: &[u8]) -> std::io::Result<()> {
     let count = steps_in(steps.len());
     let (mut answers, mut text) = (vec![0; count], vec![0; text_room(count)]);
-    println!("run: {}", code(run(table, steps, &mut answers)));
+    println!("run: {}", number(run(table, steps, &mut answers)));
     print!("codes:");
     answers.iter().for_each(|answer| print!(" {answer}"));
+    let accepted = answers.iter().filter(|&&answer| answer == code::ACCEPTED).count();
+    println!("\naccepted: {accepted} of {count}");
     let printed = print(table, steps, &mut answers, &mut text);
-    println!("\nprint: {}", code(printed));
+    println!("print: {}", number(printed));
     std::io::stdout().write_all(printed.unwrap_or_default())
 }
 
 fn written_back(table: &[u8]) {
     let mut back = vec![0; table.len()];
-    println!("write back: {}", code(write_back(table, &mut back)));
+    println!("write back: {}", number(write_back(table, &mut back)));
     println!("same bytes: {}", if back == table { "yes" } else { "no" });
+}
+
+/// No table, no steps, no room: any slice may be empty.
+fn nothing_lent(table: &[u8], steps: &[u8]) -> std::io::Result<()> {
+    let count = steps_in(steps.len());
+    let (mut answers, mut text, mut back) = (vec![0; count], vec![0; text_room(count)], vec![0; table.len()]);
+    println!(
+        "without a table: {} {} {}",
+        number(check(&[])),
+        number(run(&[], steps, &mut answers)),
+        number(write_back(&[], &mut back))
+    );
+    println!("run without steps: {} {}", number(run(table, &[], &mut answers)), number(run(table, &[], &mut [])));
+    println!(
+        "without room: {} {} {} {}",
+        number(run(table, steps, &mut [])),
+        number(print(table, steps, &mut [], &mut text)),
+        number(print(table, steps, &mut answers, &mut [])),
+        number(write_back(table, &mut []))
+    );
+    let printed = print(&[], &[], &mut [], &mut text);
+    println!("print without a table and steps: {}", number(printed));
+    std::io::stdout().write_all(printed.unwrap_or_default())?;
+    let printed = print(table, &[], &mut [], &mut text);
+    println!("print without steps: {}", number(printed));
+    std::io::stdout().write_all(printed.unwrap_or_default())
 }
 
 /// Refusals leave every buffer as it was.
 fn refusals(table: &[u8], steps: &[u8]) {
     let count = steps_in(steps.len());
-    let (mut answers, mut back) = (vec![99; count], vec![0; table.len()]);
-    println!("answers too short: {}", code(run(table, steps, &mut answers[..count.saturating_sub(1)])));
-    println!("buffer too short: {}", code(write_back(table, &mut back[..table.len() - 1])));
+    let (mut answers, mut text, mut back) = (vec![99; count], vec![0; text_room(count) - 1], vec![0; table.len()]);
+    println!("answers too short: {}", number(run(table, steps, &mut answers[..count.saturating_sub(1)])));
+    println!("text too short: {}", number(print(table, steps, &mut answers, &mut text)));
+    println!("buffer too short: {}", number(write_back(table, &mut back[..table.len() - 1])));
     let mut changed = table.to_vec();
     changed[table.len() - 1] ^= 4;
-    println!("last byte changed: {}", code(check(&changed)));
-    println!("run: {}", code(run(&changed, steps, &mut answers)));
+    println!("last byte changed: {}", number(check(&changed)));
+    println!("run: {}", number(run(&changed, steps, &mut answers)));
     println!("first answer still: {}", answers[0]);
 }

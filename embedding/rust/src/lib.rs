@@ -1,20 +1,34 @@
 //! The proved line engine for Rust: the four functions of the static library, with their codes as results.
 //!
+//! Platform and stack are those of the library: x86-64 Linux, and `STACK` bytes for a call. The package needs no `std` and no
+//! heap. docs/EMBEDDING.md says where the archive is looked for.
+//!
 //! The library asks nothing of its caller but what borrowing already gives (slices that are there, and no overlap of what is
-//! written with anything else), so that nothing has to be tested before a call. The order of refusals is the library's:
-//! the table's code first, then 26, except in `print`, where 26 is all that is refused.
+//! written with anything else), so that nothing has to be tested before a call. Any slice may be empty: no table is refused with
+//! code 1, no steps are a run of none, and a buffer of no bytes is refused with 26 where a byte is needed. The order of refusals is
+//! the library's: the table's code first, then 26, except in `print`, where 26 is all that is refused. A refusal leaves everything
+//! that was lent as it was.
 //!
 //! ```
+//! use lineengine::{check, code, run, Refusal};
 //! let table = [0x4E, 0x45, 0x54, 0, 1, 1, 2, 0, 1, 2, 0, 1, 0, 0, 0, 0, 1, 0, 0, 0];
 //! let mut answers = [0; 2];
-//! assert_eq!(lineengine::run(&table, &[1, 1, 1, 7, 0, 0], &mut answers), Ok(&[14, 13][..]));
-//! assert_eq!(lineengine::check(&table[..19]), Err(lineengine::Refusal::Table(5)));
+//! assert_eq!(run(&table, &[1, 1, 1, 7, 0, 0], &mut answers), Ok(&[code::NO_SUCH_TRAIN, code::NO_SUCH_STEP][..]));
+//! assert_eq!(check(&table[..19]), Err(Refusal::Table(code::WRONG_TABLE_LENGTH)));
 //! ```
+#![no_std]
 
+pub mod code;
 pub mod raw;
 mod refusal;
 
 pub use refusal::{Buffer, Refusal};
+
+/// The version of the interface, as in embedding/lineengine.h, which says when it changes.
+pub const VERSION: (u32, u32) = (1, 0);
+
+/// The bytes of stack that are enough for any call.
+pub const STACK: usize = 65_536;
 
 /// No table with more bytes is accepted.
 pub const MOST_TABLE: usize = 1_736;
@@ -44,7 +58,7 @@ pub const fn text_room(steps: usize) -> usize {
 pub fn check(table: &[u8]) -> Result<(), Refusal> {
     // SAFETY: the function reads the slice and nothing else.
     match unsafe { raw::lineengine_check(table.as_ptr(), table.len()) } {
-        0 => Ok(()),
+        code::ACCEPTED => Ok(()),
         code => Err(Refusal::Table(code)),
     }
 }
@@ -57,8 +71,8 @@ pub fn run<'a>(table: &[u8], steps: &[u8], answers: &'a mut [u8]) -> Result<&'a 
         raw::lineengine_run(table.as_ptr(), table.len(), steps.as_ptr(), steps.len(), answers.as_mut_ptr(), room)
     };
     match code {
-        0 => Ok(&answers[..needed]),
-        26 => Err(Refusal::TooShort { buffer: Buffer::Answers, needed, room }),
+        code::ACCEPTED => Ok(&answers[..needed]),
+        code::BUFFER_TOO_SHORT => Err(Refusal::TooShort { buffer: Buffer::Answers, needed, room }),
         code => Err(Refusal::Table(code)),
     }
 }
@@ -82,7 +96,7 @@ pub fn print<'a>(table: &[u8], input: &[u8], answers: &mut [u8], text: &'a mut [
         )
     };
     match code {
-        0 => Ok(&text[..length]),
+        code::ACCEPTED => Ok(&text[..length]),
         _ => Err(too_short_to_print(input, answers, text)),
     }
 }
@@ -101,8 +115,8 @@ pub fn write_back<'a>(table: &[u8], buffer: &'a mut [u8]) -> Result<&'a [u8], Re
     let (needed, room) = (table.len(), buffer.len());
     // SAFETY: the function reads `table` and writes within `buffer`, which does not overlap it.
     match unsafe { raw::lineengine_write_back(table.as_ptr(), needed, buffer.as_mut_ptr(), room) } {
-        0 => Ok(&buffer[..needed]),
-        26 => Err(Refusal::TooShort { buffer: Buffer::Table, needed, room }),
+        code::ACCEPTED => Ok(&buffer[..needed]),
+        code::BUFFER_TOO_SHORT => Err(Refusal::TooShort { buffer: Buffer::Table, needed, room }),
         code => Err(Refusal::Table(code)),
     }
 }

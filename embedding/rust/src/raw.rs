@@ -1,5 +1,5 @@
-//! The functions of the proved library as C sees them, by the contracts in crates/lineengine/src/lib.rt. They take any bytes; what
-//! is asked of pointers is what Rust asks of references.
+//! The functions of the proved library as C sees them, by the contracts in crates/lineengine/src/lib.rt. They take any bytes. What
+//! is asked of pointers, and what a null pointer with length 0 means, is said in embedding/lineengine.h.
 
 #[link(name = "lineengine", kind = "static")]
 extern "C" {

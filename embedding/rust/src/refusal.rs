@@ -1,14 +1,15 @@
 //! Why a call was refused.
 
-use std::error::Error;
-use std::fmt;
+use crate::code::BUFFER_TOO_SHORT;
+use core::error::Error;
+use core::fmt;
 
 /// A refusal. Every buffer of the call is as it was.
 #[derive(Clone, Copy, Debug, PartialEq, Eq)]
 pub enum Refusal {
-    /// The table is refused, with this code from 1 to 12 (docs/CODES.md).
+    /// The table is refused, with this code from 1 to 12 (`code`).
     Table(u8),
-    /// A lent buffer has less room than the call needs: code 26.
+    /// A lent buffer has less room than the call needs: `code::BUFFER_TOO_SHORT`.
     TooShort { buffer: Buffer, needed: usize, room: usize },
 }
 
@@ -21,11 +22,11 @@ pub enum Buffer {
 }
 
 impl Refusal {
-    /// The number of the refusal.
+    /// The number of the refusal, one of those in `code`.
     pub fn code(self) -> u8 {
         match self {
             Refusal::Table(code) => code,
-            Refusal::TooShort { .. } => 26,
+            Refusal::TooShort { .. } => BUFFER_TOO_SHORT,
         }
     }
 }
@@ -35,7 +36,7 @@ impl fmt::Display for Refusal {
         match self {
             Refusal::Table(code) => write!(f, "{code}: the table is refused"),
             Refusal::TooShort { buffer, needed, room } => {
-                write!(f, "26: {buffer:?} has room for {room} bytes and needs {needed}")
+                write!(f, "{BUFFER_TOO_SHORT}: {buffer:?} has room for {room} bytes and needs {needed}")
             }
         }
     }

@@ -14,6 +14,8 @@ pub struct Counts {
     pub step_codes: [usize; 28],
     /// Calls that were answered 26.
     pub too_short: [usize; 4],
+    /// Calls by the raw functions with a null pointer or several.
+    pub with_null: usize,
     pub cases: usize,
     pub cut_short: usize,
     pub differences: usize,
@@ -31,6 +33,11 @@ impl Counts {
                 codes.iter().for_each(|&code| self.step_codes[code as usize] += 1);
             }
         }
+    }
+
+    /// Counts a call with null pointers, which stand for what has length 0.
+    pub fn nulls(&mut self, lengths: &[usize]) {
+        self.with_null += usize::from(lengths.contains(&0));
     }
 
     /// Counts a call, and its difference where what was given is not what was expected.
@@ -52,6 +59,7 @@ impl Counts {
             let name = format!("{function:?}");
             println!("{name:9} {:7} {:12}", self.calls[function as usize], self.too_short[function as usize]);
         }
+        println!("{} calls with a null pointer or several", self.with_null);
         print_codes(&self.file_codes, &self.step_codes);
         println!("{} differences", self.differences);
     }

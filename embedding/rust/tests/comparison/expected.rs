@@ -35,16 +35,16 @@ pub fn run(codes: &Result<Vec<u8>, u8>, answers: &[u8]) -> Answer {
     }
 }
 
-/// A printout: its code and length, the text's buffer and the buffer of the answers.
-pub fn print(file: &[u8], input: &[u8], answers: &[u8], text: &[u8]) -> (u8, usize, Vec<u8>, Vec<u8>) {
+/// A printout: its code, its length where one is stored, the text's buffer and the buffer of the answers.
+pub fn print(file: &[u8], input: &[u8], answers: &[u8], text: &[u8]) -> (u8, Option<usize>, Vec<u8>, Vec<u8>) {
     let steps = input.len().div_ceil(3).min(MAX_STEPS);
     if answers.len() < steps || text.len() < 18 * (steps + 113) {
-        return (26, 0, text.to_vec(), answers.to_vec());
+        return (26, None, text.to_vec(), answers.to_vec());
     }
     let taken = &input[..input.len().min(3 * MAX_STEPS)];
     let printed = printout(file, input);
     let (_, told) = run(&step_codes(file, taken), answers);
-    (0, printed.len(), over(&printed, text), told)
+    (0, Some(printed.len()), over(&printed, text), told)
 }
 
 /// A file read and written back: what the second implementation writes of the table that it read.

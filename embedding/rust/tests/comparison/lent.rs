@@ -1,8 +1,17 @@
 //! Memory that is lent to the library: a part of a larger one, whose margins are watched.
 
 use reference::generate::prng::Prng;
+use std::ptr::{null, null_mut};
 
 const MARGIN: usize = 24;
+
+/// The pointer that a program in C may pass for these bytes: a null pointer where there are none.
+pub fn pointer(bytes: &[u8]) -> *const u8 {
+    match bytes.is_empty() {
+        true => null(),
+        false => bytes.as_ptr(),
+    }
+}
 
 /// Bytes of any content, of which the middle is lent.
 pub struct Lent {
@@ -22,6 +31,14 @@ impl Lent {
     /// What is lent.
     pub fn part(&mut self) -> &mut [u8] {
         &mut self.bytes[MARGIN..MARGIN + self.room]
+    }
+
+    /// The pointer to it that a program in C may pass: a null pointer where nothing is lent.
+    pub fn pointer(&mut self) -> *mut u8 {
+        match self.room {
+            0 => null_mut(),
+            _ => self.part().as_mut_ptr(),
+        }
     }
 
     /// What is lent, as it stands.

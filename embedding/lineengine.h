@@ -98,7 +98,7 @@ enum lineengine_code {
     (LINEENGINE_STEPS(bytes) < LINEENGINE_MOST_PRINTED_STEPS ? LINEENGINE_STEPS(bytes) : LINEENGINE_MOST_PRINTED_STEPS)
 
 /* The room that the text of so many printed steps is asked to have: lines of at most 18 bytes, for each step, 16 trains, 96 boxes
- * and the last line. */
+ * and the last line. That of LINEENGINE_MOST_PRINTED_STEPS, 1,181,664 bytes, is enough for every text. */
 #define LINEENGINE_TEXT_ROOM(steps) (18 * ((size_t)(steps) + 113))
 
 /*

@@ -13,6 +13,9 @@ ghost use Rattle.rules.specs.declared.Request.the-variants.{Reserve, Lock};
 ghost use Rattle.rules.specs.Line.{holderOf, setHolder};
 ghost use Rattle.rules.specs.Steps.{another, boxRows, positionFor, lockGiven, granted, released};
 
+// The box's code for a yes.
+const YES: u8 = 0;
+
 // The train that segment s is reserved for at a box, 0 where there is none.
 fn holder_of(p: BoxPlan, x: SwitchBox, s: u8) -> u8
     ensures { λ h. ⌜ h ≡ holderOf p x s ⌝ }
@@ -67,7 +70,7 @@ fn reserve_code(v: Around, p: BoxPlan, x: SwitchBox, b: u8) -> u8
     if another(v.number, holder_of(p, x, v.next)) {
         return 22;
     }
-    0
+    YES
 }
 
 // Front and next are reserved for the train at the box.
@@ -93,7 +96,7 @@ fn lock_code(v: Around, p: BoxPlan, x: SwitchBox, b: u8) -> u8
     if !holds_both(v, p, x) {
         return 25;
     }
-    0
+    YES
 }
 
 // The box's code for a request.

@@ -1,6 +1,9 @@
 //! The pages docs/CODES.md and docs/TABLES.md have the bytes, steps and printouts that they should have.
 
-use reference::generate::example::{file_text, Example, BOX_FIELDS};
+mod common;
+
+use common::page::{between, blocks, hex_bytes, numbers, on_one_line};
+use reference::generate::example::{file_text, record_text, Example, BOX_FIELDS};
 use reference::generate::smallest::{refused_size, smallest_accepted, smallest_examples};
 use reference::printout::printout;
 use reference::table_read::read_table;
@@ -10,6 +13,7 @@ const TABLES: &str = include_str!("../../docs/TABLES.md");
 const S: &[u8] = include_bytes!("../../samples/s/net");
 const S_STEPS: &[u8] = include_bytes!("../../samples/s/steps");
 const S_PRINTOUT: &str = include_str!("../../samples/s/printout");
+const PASSING_STEPS: &[u8] = include_bytes!("../../samples/passing/steps");
 const REFUSED: &[u8] = include_bytes!("../../samples/refused/net");
 const REFUSED_STEPS: &[u8] = include_bytes!("../../samples/refused/steps");
 const REFUSED_PRINTOUT: &str = include_str!("../../samples/refused/printout");
@@ -18,17 +22,6 @@ const REFUSED_PRINTOUT: &str = include_str!("../../samples/refused/printout");
 fn entries() -> Vec<(u8, &'static str)> {
     let sections = CODES.split("\n## ").skip(1);
     sections.filter_map(|s| Some((s.split(' ').next()?.parse().ok()?, s))).collect()
-}
-
-/// The texts between lines of three backquotes.
-fn blocks(text: &str) -> Vec<&str> {
-    text.split("```\n").skip(1).step_by(2).collect()
-}
-
-/// The decimal numbers in a text.
-fn numbers(text: &str) -> Vec<u8> {
-    let digits = text.split(|c: char| !c.is_ascii_digit()).filter(|word| !word.is_empty());
-    digits.map(|word| word.parse().expect("a number has one byte")).collect()
 }
 
 /// Reads an example from its block, the words on the right left out.
@@ -45,8 +38,7 @@ fn example(block: &str) -> Example {
             let field = BOX_FIELDS.iter().position(|&f| f == name).expect("a field of a box");
             example.change = Some([b'b', numbers(number)[0] - 1, field as u8, numbers(value)[0]]);
         } else {
-            let bytes = left.split_whitespace().map(|b| u8::from_str_radix(b, 16).expect("a byte"));
-            example.file.extend(bytes);
+            example.file.extend(hex_bytes(left).expect("bytes"));
         }
     }
     example
@@ -57,7 +49,7 @@ fn codes_have_their_smallest_examples() {
     let (entries, examples) = (entries(), smallest_examples());
     assert_eq!(entries.iter().map(|&(code, _)| code).collect::<Vec<u8>>(), (1..=27).collect::<Vec<u8>>());
     for ((code, text), smallest) in entries.into_iter().zip(&examples) {
-        let block = *blocks(text).first().expect("an entry has an example");
+        let block = blocks(text)[1];
         let on_page = example(block);
         assert_eq!(on_page, *smallest, "entry {code}");
         assert_eq!(on_page.answer(), code, "entry {code}");
@@ -65,18 +57,13 @@ fn codes_have_their_smallest_examples() {
     }
 }
 
-/// The text between two others, the first such place.
-fn between<'a>(text: &'a str, before: &str, after: &str) -> Option<&'a str> {
-    Some(text.split_once(before)?.1.split_once(after)?.0)
-}
-
-/// The example of an entry, mended as the entry says: with a record in the place of another, or with steps
-/// before its own.
+/// The smallest example of an entry, mended as the entry says: with a record in the place of another, or with
+/// steps before its own.
 fn mended(text: &str) -> Option<Example> {
-    let block = blocks(text)[0];
-    let words = text.split_whitespace().collect::<Vec<_>>().join(" ");
+    let block = blocks(text)[1];
+    let words = on_one_line(text);
     if let Some(steps) = between(&words, "With the steps `", "` before, the answer is 0.") {
-        return Some(example(&format!("{}\n{block}", steps.replace(") (", ")\n("))));
+        return Some(example(&format!("{}\n{block}", on_lines(steps))));
     }
     let (record, name) = between(&words, "With `", " the file is accepted.")?.split_once("` as ")?;
     let line = block.lines().find(|line| line.contains(&format!("  {name}: "))).expect("the record is there");
@@ -124,14 +111,104 @@ fn no_neighbour_is_smaller() {
     }
 }
 
-/// The bytes that the commands `printf '\x..' > NAME` and `>> NAME` of a text write.
+/// The steps of a sentence, a step a line.
+fn on_lines(steps: &str) -> String {
+    steps.replace(") (", ")\n(")
+}
+
+/// Table S as a block changes it, and the lines of the block that change no record. Each line `-` takes a record out of S,
+/// each line `+` puts one in its place; commands write a file of their own.
+fn mistaken(block: &str) -> (Vec<u8>, String) {
+    if block.starts_with("printf") {
+        return (printed_to(block, "net"), String::new());
+    }
+    let (text, mut place, mut others) = (file_text(S), 0, String::new());
+    let mut records: Vec<&str> = text.lines().collect();
+    for line in block.lines() {
+        if let Some(record) = line.strip_prefix("- ") {
+            place += records[place..].iter().position(|&r| r == record).expect("a record of S");
+            records.remove(place);
+        } else if let Some(record) = line.strip_prefix("+ ") {
+            let (bytes, words) = record.split_once("  ").expect("bytes and words");
+            let (name, _) = words.trim_start().split_once(": ").expect("the record's name");
+            assert_eq!(format!("{record}\n"), record_text(name, &hex_bytes(bytes).expect("bytes")));
+            records.insert(place, record);
+            place += 1;
+        } else {
+            others += &format!("{line}\n");
+        }
+    }
+    (example(&records.join("\n")).file, others)
+}
+
+/// The first block of an entry as an example on a file, after the steps of samples/passing that the words before it name.
+fn on_file(file: &[u8], words: &str, lines: &str) -> Example {
+    let mut example = Example { file: file.to_vec(), ..example(lines) };
+    if let Some(count) = between(words, "After the ", " steps of samples/passing") {
+        let count = 3 * numbers(count)[0] as usize;
+        let before = PASSING_STEPS[..count].chunks(3).map(|bytes| bytes.try_into().expect("three bytes"));
+        example.steps.splice(0..0, before);
+    }
+    example
+}
+
+/// The mistakes on table S have their codes, all of their steps the answers that stand there.
+#[test]
+fn mistakes_have_their_codes() {
+    for (code, text) in entries() {
+        let words = on_one_line(text.split("```\n").next().expect("words"));
+        let (file, lines) = mistaken(blocks(text)[0]);
+        let mistake = on_file(&file, &words, &lines);
+        assert_eq!(mistake.answer(), code, "entry {code}");
+        assert_eq!(lines.is_empty(), code <= 12, "entry {code}");
+        assert!(lines.is_empty() || mistake.text().ends_with(&format!("\n{lines}")), "entry {code}: {}", mistake.text());
+    }
+}
+
+/// What is right instead has code 0 on table S, at every step.
+#[test]
+fn what_is_right_is_accepted() {
+    let mut tried = Vec::new();
+    for (code, text) in entries() {
+        let words = on_one_line(text);
+        let Some(steps) = between(&words, "Right: `", "`") else { continue };
+        let right = on_file(S, &words, &on_lines(steps));
+        for length in 0..=right.steps.len() {
+            let front = Example { steps: right.steps[..length].to_vec(), ..right.clone() };
+            assert_eq!(front.answer(), 0, "entry {code}, {length} steps");
+        }
+        tried.push(code);
+    }
+    assert_eq!(tried, [13, 14, 15, 17, 18, 19, 20, 21, 22, 23, 24, 25, 26, 27]);
+}
+
+/// The entry of 13 has the bytes of a step typed as text, the steps that they are and what is printed for them.
+#[test]
+fn step_typed_as_text() {
+    let (_, text) = entries()[12];
+    let words = on_one_line(text);
+    let typed = between(&words, "the step `", "` is typed as text").expect("what is typed");
+    let bytes = between(&words, "these are the bytes ", ", which").and_then(hex_bytes).expect("its bytes");
+    let printed = between(&words, "`line` prints `", "`.").expect("what is printed").replace("` and `", "\n");
+    assert_eq!(bytes, format!("{typed}\n").into_bytes());
+    assert_eq!(bytes, example(blocks(text)[0]).steps.concat());
+    assert!(printout(S, &bytes).starts_with(format!("{printed}\ntrain 1").as_bytes()));
+}
+
+/// The bytes that the commands `printf '\x..' > NAME` and `>> NAME` of a text leave in the file.
 fn printed_to(text: &str, name: &str) -> Vec<u8> {
     let mut file = Vec::new();
     for line in text.lines().filter(|line| line.starts_with("printf '")) {
-        let (escapes, target) = line["printf '".len()..].split_once("' >").expect("a file is written");
-        if target.trim_start_matches(['>', ' ']) == name {
-            let bytes = escapes.split("\\x").skip(1).map(|b| u8::from_str_radix(b, 16).expect("a byte"));
-            file.extend(bytes);
+        let (words, target) = line["printf '".len()..].split_once("' >").expect("a file is written");
+        if target.trim_start_matches(['>', ' ']) != name {
+            continue;
+        }
+        if !target.starts_with('>') {
+            file.clear();
+        }
+        match words.strip_prefix("\\x") {
+            Some(escapes) => file.extend(hex_bytes(&escapes.replace("\\x", " ")).expect("bytes")),
+            None => file.extend(words.bytes()),
         }
     }
     file
@@ -140,7 +217,7 @@ fn printed_to(text: &str, name: &str) -> Vec<u8> {
 /// The bytes that a block of hexadecimal digits for `xxd -r -p` stands for.
 fn plain_hex(block: &str) -> Option<Vec<u8>> {
     let digits = block.strip_prefix("xxd -r -p > net <<END\n")?.strip_suffix("END\n")?;
-    digits.split_whitespace().map(|b| u8::from_str_radix(b, 16).ok()).collect()
+    hex_bytes(digits)
 }
 
 #[test]

@@ -91,30 +91,47 @@ fn hex(bytes: &[u8]) -> String {
 /// The bytes of a file whose head and records, if it has any, are whole; a record a line.
 pub fn file_text(file: &[u8]) -> String {
     let mut text = String::new();
-    let &[_, _, _, high, low, n, m, k, ref rest @ ..] = file else {
+    let &[_, _, _, _, _, n, m, k, ref rest @ ..] = file else {
         add(&mut text, &hex(file), if file.is_empty() { "no byte at all" } else { "less than a head" });
         return text;
     };
-    let version = u16::from_be_bytes([high, low]);
-    add(&mut text, &hex(&file[..8]), &format!("head: version {version}, n = {n}, m = {m}, k = {k}"));
+    text += &record_text("head", &file[..8]);
     if rest.is_empty() {
         return text;
     }
     let (segments, rest) = rest.split_at(2 * n as usize);
-    for (i, s) in segments.chunks(2).enumerate() {
-        add(&mut text, &hex(s), &format!("segment {}: A end at box {}, B end at box {}", i + 1, s[0], s[1]));
+    for (i, record) in segments.chunks(2).enumerate() {
+        text += &record_text(&format!("segment {}", i + 1), record);
     }
     let (boxes, mut rest) = rest.split_at(5 * m as usize);
-    for (i, b) in boxes.chunks(5).enumerate() {
-        add(&mut text, &hex(b), &format!("box {}: {}", i + 1, box_words(b)));
+    for (i, record) in boxes.chunks(5).enumerate() {
+        text += &record_text(&format!("box {}", i + 1), record);
     }
     for train in 1..=k {
         let (record, after) = rest.split_at(2 + rest[1] as usize);
-        let route: Vec<String> = record[2..].iter().map(u8::to_string).collect();
-        let route = if route.is_empty() { "empty".into() } else { route.join(", ") };
-        add(&mut text, &hex(record), &format!("train {train}: direction {}, route {route}", record[0]));
+        text += &record_text(&format!("train {train}"), record);
         rest = after;
     }
+    text
+}
+
+/// The line of a record: its bytes, its name (`head`, or `segment`, `box` or `train` with a number) and what the bytes say.
+pub fn record_text(name: &str, record: &[u8]) -> String {
+    let words = match (name.split(' ').next(), record) {
+        (Some("head"), &[_, _, _, high, low, n, m, k]) => {
+            format!("version {}, n = {n}, m = {m}, k = {k}", u16::from_be_bytes([high, low]))
+        }
+        (Some("segment"), [a, b]) => format!("A end at box {a}, B end at box {b}"),
+        (Some("box"), record) => box_words(record),
+        (Some("train"), [direction, _, route @ ..]) => {
+            let route: Vec<String> = route.iter().map(u8::to_string).collect();
+            let route = if route.is_empty() { "empty".into() } else { route.join(", ") };
+            format!("direction {direction}, route {route}")
+        }
+        _ => panic!("{name} is no record of these bytes: {record:?}"),
+    };
+    let mut text = String::new();
+    add(&mut text, &hex(record), &format!("{name}: {words}"));
     text
 }
 

@@ -1,6 +1,8 @@
 //! Tables and steps the tests share.
 #![allow(dead_code)]
 
+pub mod page;
+
 use reference::line::{start_line, Line};
 use reference::step::{step, step_checked, Step};
 use reference::table::{Segment, SwitchBox, Table, TrainEntry};

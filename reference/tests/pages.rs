@@ -116,8 +116,8 @@ fn on_lines(steps: &str) -> String {
     steps.replace(") (", ")\n(")
 }
 
-/// Table S as a block changes it, and the lines of the block that change no record. Each line `-` takes a record out of S,
-/// each line `+` puts one in its place; commands write a file of their own.
+/// Table S as a block changes it, and the lines of the block that change no record. Each line `-` takes a record
+/// out of S, each line `+` puts one in its place; commands write a file of their own.
 fn mistaken(block: &str) -> (Vec<u8>, String) {
     if block.starts_with("printf") {
         return (printed_to(block, "net"), String::new());
@@ -141,7 +141,7 @@ fn mistaken(block: &str) -> (Vec<u8>, String) {
     (example(&records.join("\n")).file, others)
 }
 
-/// The first block of an entry as an example on a file, after the steps of samples/passing that the words before it name.
+/// Lines as an example on a file, after as many steps of samples/passing as the words say.
 fn on_file(file: &[u8], words: &str, lines: &str) -> Example {
     let mut example = Example { file: file.to_vec(), ..example(lines) };
     if let Some(count) = between(words, "After the ", " steps of samples/passing") {
@@ -161,7 +161,7 @@ fn mistakes_have_their_codes() {
         let mistake = on_file(&file, &words, &lines);
         assert_eq!(mistake.answer(), code, "entry {code}");
         assert_eq!(lines.is_empty(), code <= 12, "entry {code}");
-        assert!(lines.is_empty() || mistake.text().ends_with(&format!("\n{lines}")), "entry {code}: {}", mistake.text());
+        assert!(lines.is_empty() || mistake.text().ends_with(&format!("\n{lines}")), "entry {code}");
     }
 }
 

@@ -115,7 +115,8 @@ pub fn file_text(file: &[u8]) -> String {
     text
 }
 
-/// The line of a record: its bytes, its name (`head`, or `segment`, `box` or `train` with a number) and what the bytes say.
+/// The line of a record: its bytes, its name (`head`, or `segment`, `box` or `train` with a number) and what
+/// they say.
 pub fn record_text(name: &str, record: &[u8]) -> String {
     let words = match (name.split(' ').next(), record) {
         (Some("head"), &[_, _, _, high, low, n, m, k]) => {

@@ -116,24 +116,28 @@ fn on_lines(steps: &str) -> String {
     steps.replace(") (", ")\n(")
 }
 
+/// Bytes and name of a record's line.
+fn record(line: &str) -> (Vec<u8>, &str) {
+    let (bytes, words) = line.split_once("  ").expect("bytes and words");
+    let (name, _) = words.trim_start().split_once(": ").expect("the record's name");
+    (hex_bytes(bytes).expect("bytes"), name)
+}
+
 /// Table S as a block changes it, and the lines of the block that change no record. Each line `-` takes a record
-/// out of S, each line `+` puts one in its place; commands write a file of their own.
+/// out of S, the line `+` after it puts another in its place.
 fn mistaken(block: &str) -> (Vec<u8>, String) {
-    if block.starts_with("printf") {
-        return (printed_to(block, "net"), String::new());
-    }
     let (text, mut place, mut others) = (file_text(S), 0, String::new());
     let mut records: Vec<&str> = text.lines().collect();
+    let mut out = "";
     for line in block.lines() {
-        if let Some(record) = line.strip_prefix("- ") {
-            place += records[place..].iter().position(|&r| r == record).expect("a record of S");
-            records.remove(place);
-        } else if let Some(record) = line.strip_prefix("+ ") {
-            let (bytes, words) = record.split_once("  ").expect("bytes and words");
-            let (name, _) = words.trim_start().split_once(": ").expect("the record's name");
-            assert_eq!(format!("{record}\n"), record_text(name, &hex_bytes(bytes).expect("bytes")));
-            records.insert(place, record);
-            place += 1;
+        if let Some(line) = line.strip_prefix("- ") {
+            place += records[place..].iter().position(|&r| r == line).expect("a record of S");
+            out = records.remove(place);
+        } else if let Some(line) = line.strip_prefix("+ ") {
+            let (bytes, name) = record(line);
+            assert_eq!(name, record(out).1);
+            assert_eq!(format!("{line}\n"), record_text(name, &bytes));
+            records.insert(place, line);
         } else {
             others += &format!("{line}\n");
         }
@@ -141,12 +145,21 @@ fn mistaken(block: &str) -> (Vec<u8>, String) {
     (example(&records.join("\n")).file, others)
 }
 
+/// What commands write that have the bytes of the last records, or of the first one, of S.
+fn mistyped(block: &str) -> Vec<u8> {
+    let digits = |line: &str| Some(hex_bytes(&between(line, "'", "'")?.replace("\\x", " ")).expect("bytes"));
+    let typed = block.lines().filter_map(digits).collect::<Vec<_>>().concat();
+    assert!(S.ends_with(&typed) || S[..8] == typed);
+    printed_to(block, "net")
+}
+
 /// Lines as an example on a file, after as many steps of samples/passing as the words say.
 fn on_file(file: &[u8], words: &str, lines: &str) -> Example {
     let mut example = Example { file: file.to_vec(), ..example(lines) };
     if let Some(count) = between(words, "After the ", " steps of samples/passing") {
-        let count = 3 * numbers(count)[0] as usize;
-        let before = PASSING_STEPS[..count].chunks(3).map(|bytes| bytes.try_into().expect("three bytes"));
+        let before = &PASSING_STEPS[..3 * numbers(count)[0] as usize];
+        assert_eq!(count.starts_with("first "), before.len() < PASSING_STEPS.len());
+        let before = before.chunks(3).map(|bytes| bytes.try_into().expect("three bytes"));
         example.steps.splice(0..0, before);
     }
     example
@@ -157,7 +170,8 @@ fn on_file(file: &[u8], words: &str, lines: &str) -> Example {
 fn mistakes_have_their_codes() {
     for (code, text) in entries() {
         let words = on_one_line(text.split("```\n").next().expect("words"));
-        let (file, lines) = mistaken(blocks(text)[0]);
+        let block = blocks(text)[0];
+        let (file, lines) = if code <= 2 { (mistyped(block), String::new()) } else { mistaken(block) };
         let mistake = on_file(&file, &words, &lines);
         assert_eq!(mistake.answer(), code, "entry {code}");
         assert_eq!(lines.is_empty(), code <= 12, "entry {code}");

@@ -124,10 +124,11 @@ pub fn record_text(name: &str, record: &[u8]) -> String {
         }
         (Some("segment"), [a, b]) => format!("A end at box {a}, B end at box {b}"),
         (Some("box"), record) => box_words(record),
-        (Some("train"), [direction, _, route @ ..]) => {
+        (Some("train"), [direction, length, route @ ..]) => {
+            let length = if *length as usize == route.len() { String::new() } else { format!("length {length}, ") };
             let route: Vec<String> = route.iter().map(u8::to_string).collect();
             let route = if route.is_empty() { "empty".into() } else { route.join(", ") };
-            format!("direction {direction}, route {route}")
+            format!("direction {direction}, {length}route {route}")
         }
         _ => panic!("{name} is no record of these bytes: {record:?}"),
     };

@@ -1,12 +1,10 @@
 -- Laws of ranks of boxes: a pass that raises them along the segments, and what its end says of loops.
 use Prim.Native.Nat.{ℕ, zero, suc, _+_, _-_, _*_, _≤_, _<_}
 use mathlib.Core.Path.{_≡_, sym, _∙_}
-use mathlib.Core.Bool.{Bool, true, false, _||_, false≢true}
+use mathlib.Core.Bool.{Bool, true, false, false≢true}
 use mathlib.Core.List.{List, [], _∷_, List·Memᴰ}
 use native.Mathlib.Decide.{ℕ-discrete}
 use native.Mathlib.Omega.{arith}
-use borrow.Author.Tests.{lt-ltb, le-ltb}
-use lib.Dec.{ltb}
 use lib.ListN.{length, getD, set, replicate, length-set, length-replicate}
 use Rattle.rules.specs.Track.{Track}
 use Rattle.rules.specs.Loop.{SegmentOf, chainEnds, hasLoop}
@@ -147,24 +145,20 @@ module _ (n : ℕ) (track : Track) (l : List ℕ) where
           tells = rising-no-loop n track (λ x. getD now x 0) (λ s k. p .rising e s (k .low) (omega arith));
         }
 
--- More segments than there is room for.
-pub too-many : (n : ℕ) (track : Track) → 96 < n → true ≡ (ltb 96 n || hasLoop n track)
-too-many n track h = rw (lt-ltb 96 n h)
+-- The sum that ranks can have, as n is a byte; what the end of a pass says of loops; and what is left of that sum, which is less
+-- after each pass that raised a rank.
+reached-total : (n : ℕ) (track : Track) (l : List ℕ) → n < 256 → Reached n track l → total l ≤ 89856
+reached-total n track l byte h = omega (arith, total-bounded 351 l (λ x. omega (arith, h .bounded x)))
 
--- The sum that ranks can have; what the end of a pass says of loops; and what is left of that sum, which is less after each pass
--- that raised a rank.
-reached-total : (n : ℕ) (track : Track) (l : List ℕ) → n ≤ 96 → Reached n track l → total l ≤ 49152
-reached-total n track l few h = omega (arith, total-bounded 192 l (λ x. omega (arith, h .bounded x)))
-
-module _ (n : ℕ) (track : Track) (before after : List ℕ) (pass : Pass) (h : Ended n track before after pass) (few : n ≤ 96) where
-  pub rising-none : pass ≡ Rising → false ≡ (ltb 96 n || hasLoop n track)
+module _ (n : ℕ) (track : Track) (before after : List ℕ) (pass : Pass) (h : Ended n track before after pass) where
+  pub rising-none : pass ≡ Rising → false ≡ hasLoop n track
   unfolding told
-  rising-none e = let k = rw e at (h .tells) in rw (le-ltb 96 n few) (sym k)
+  rising-none e = sym (rw e at (h .tells))
 
-  pub high-some : pass ≡ TooHigh → true ≡ (ltb 96 n || hasLoop n track)
+  pub high-some : pass ≡ TooHigh → true ≡ hasLoop n track
   unfolding told
-  high-some e = let k = rw e at (h .tells) in rw (le-ltb 96 n few) (sym k)
+  high-some e = sym (rw e at (h .tells))
 
-  pub raised-less : pass ≡ Raised → 49152 - total after < 49152 - total before
+  pub raised-less : n < 256 → pass ≡ Raised → 89856 - total after < 89856 - total before
   unfolding told
-  raised-less e = let k = rw e at (h .tells) in omega (arith, reached-total n track after few (h .reached))
+  raised-less byte e = let k = rw e at (h .tells) in omega (arith, reached-total n track after byte (h .reached))

@@ -4,8 +4,6 @@
 // the answer is right does not rest on it.
 use rules::BoxPlan;
 ghost use mathlib.Core.Path.{_≡_};
-ghost use mathlib.Core.Bool.{_||_};
-ghost use lib.Dec.{ltb};
 ghost use Prim.Native.Nat.{_≤_, _<_};
 ghost use Rattle.rules.specs.Track.{trackIn};
 ghost use Rattle.rules.specs.Loop.{hasLoop};
@@ -89,17 +87,17 @@ fn release(b: u8, count: &mut [u8; 256], order: &mut [u8; 96], known: usize) -> 
 }
 
 // A rank for each box: its place in the order, and 96 for those that the order does not come to.
-fn guess(n: u8, m: u8, plans: [BoxPlan; 96], a: &[u8; 256], b: &[u8; 256]) -> [u8; 256]
+fn guess(n: u8, m: u8, plans: [BoxPlan; 96], a: &[u8; 256], b: &[u8; 256]) -> [u16; 256]
     ensures { λ r. ⌜ Low r ⌝ }
 {
     let mut count = entries(n, b);
     let mut order = [0u8; 96];
     let mut known = sources(m, &count, &mut order);
-    let mut ranks = [96u8; 256];
+    let mut ranks = [96u16; 256];
     let mut done: usize = 0;
     while done < known {
         let number = order[done];
-        ranks[index(number)] = done as u8;
+        ranks[index(number)] = done as u16;
         done += 1;
         let p = plans[place(number)];
         let stem = leads_to(number, p.stem, a, b);
@@ -121,12 +119,11 @@ enum Pass {
 }
 
 // One pass: along each segment in turn, the rank at its B end is raised above the one at its A end, where it is not so already.
-fn raise(n: u8, a: &[u8; 256], b: &[u8; 256], ranks: &mut [u8; 256]) -> Pass
-    requires { ⌜ n ≤ 96 ⌝ }
+fn raise(n: u8, a: &[u8; 256], b: &[u8; 256], ranks: &mut [u16; 256]) -> Pass
     requires { ⌜ Reached n (trackIn (now a) (now b)) (now ranks) ⌝ }
     ensures { λ r. ⌜ Ended n (trackIn (now (a .entry)) (now (b .entry))) (now (ranks .entry)) (now (ranks .exit)) r ⌝ }
 {
-    let highest = n + 96;
+    let highest = n as u16 + 96;
     let mut raised = false;
     let mut s: u8 = 0;
     while s < n {
@@ -148,13 +145,10 @@ fn raise(n: u8, a: &[u8; 256], b: &[u8; 256], ranks: &mut [u8; 256]) -> Pass
     Pass::Rising
 }
 
-// Code 9: some list of segments closes a loop; or there is no room for n segments.
+// Code 9: some list of segments closes a loop.
 pub fn has_loop(n: u8, m: u8, plans: [BoxPlan; 96], a: &[u8; 256], b: &[u8; 256]) -> bool
-    ensures { λ r. ⌜ r ≡ (ltb 96 n || hasLoop n (trackIn (now (a .entry)) (now (b .entry)))) ⌝ }
+    ensures { λ r. ⌜ r ≡ hasLoop n (trackIn (now (a .entry)) (now (b .entry))) ⌝ }
 {
-    if n > 96 {
-        return true;
-    }
     let mut ranks = guess(n, m, plans, a, b);
     loop {
         let pass = raise(n, a, b, &mut ranks);

@@ -1,5 +1,6 @@
 -- `guess`: the order has at most 96 boxes, so that no rank is above 96.
 use Prim.Native.Nat.{_≤_, _-_}
+use native.Mathlib.Omega.{arith}
 use borrow.Author.Needs.{needs}
 use Rattle.loops.specs.Ranks.{Low}
 use Rattle.loops.proofs.Rising.{low-start, low-set}
@@ -24,6 +25,7 @@ guess-spec =
     (λ c. search needs)
     (λ c. search needs)
     (λ c κs. search needs)
+    (λ c. omega arith)
     (λ c. search needs)
     (λ c. search needs)
     (λ c κs. search needs)

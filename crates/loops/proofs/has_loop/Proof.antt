@@ -3,7 +3,7 @@ use Prim.Native.Nat.{_-_}
 use borrow.Author.Needs.{needs}
 use Rattle.rules.specs.Track.{trackIn}
 use Rattle.loops.specs.Ranks.{Reached, total}
-use Rattle.loops.proofs.Rising.{low-reached, too-many, rising-none, high-some, raised-less}
+use Rattle.loops.proofs.Rising.{low-reached, rising-none, high-some, raised-less}
 use Rattle.loops.proofs.has_loop.Statement.{statement}
 use Rattle.loops.proofs.has_loop.Tie as tie
 
@@ -11,7 +11,7 @@ abbrev Inv-loop : tie.InvT-loop
 Inv-loop n m a b ranks₀ ranks = Reached n (trackIn a b) ranks
 
 abbrev μ-loop : tie.MeasureT-loop
-μ-loop n m a b ranks₀ ranks = 49152 - total ranks
+μ-loop n m a b ranks₀ ranks = 89856 - total ranks
 
 pub has-loop-spec : {M : Type 1} → statement M
 has-loop-spec =
@@ -19,7 +19,6 @@ has-loop-spec =
     (tie.spec
     Inv-loop
     μ-loop
-    (λ c. search too-many)
     (λ c κs. search needs)
     (λ c. search low-reached)
     (λ c κs. search needs)

@@ -37,10 +37,13 @@ raise-spec =
     (λ c. search needs)
     (λ c. search needs)
     (λ c κs. search needs)
+    (λ c. omega arith)
     (λ c. search needs)
+    (λ c. omega arith)
     (λ c. search needs)
     (λ c. search passing-high)
     (λ c. search needs)
+    (λ c. omega arith)
     (λ c. search needs)
     (λ c. search needs)
     raised-again

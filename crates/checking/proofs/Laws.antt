@@ -22,7 +22,7 @@ use Rattle.rules.specs.Line.{noTrain, noBox, aroundOn}
 use Rattle.rules.specs.Steps.{addressRows}
 use Rattle.rules.specs.Record.{answerCode, addressFault, messageFault, trainFault, trainsFault, switchBoxFault}
 use Rattle.rules.proofs.Tests.{tests, is-true, or-left, or-last, not-same, answered}
-use Rattle.layout.proofs.Routes.{route-told}
+use Rattle.placing.proofs.Routes.{route-told}
 use Rattle.rules.proofs.Rows.{nth-at, nth-past, none-found}
 
 -- The train and the box at index i are those of number i + 1; z is what a function answered for it, and v what a branch found.

@@ -10,7 +10,7 @@ ghost use Rattle.rules.specs.Record.{switchBoxFault, switchBoxesFault};
 fn box_faulty(k: u8, p: BoxPlan, x: SwitchBox) -> bool
     ensures { λ r. ⌜ r ≡ switchBoxFault k p x ⌝ }
 {
-    if !layout::network::position_fits(p, x.position) {
+    if !network::position_fits(p, x.position) {
         return true;
     }
     if x.lock > k {
@@ -27,7 +27,7 @@ fn box_faulty(k: u8, p: BoxPlan, x: SwitchBox) -> bool
 
 // Code 27 at boxes 1 to m, by their plans and records, on a line with k trains: there is no room for m boxes, or one of them is
 // at fault.
-pub fn some_box_faulty(k: u8, m: u8, plans: [BoxPlan; 96], boxes: [SwitchBox; 96]) -> bool
+pub fn some_box_record_faulty(k: u8, m: u8, plans: [BoxPlan; 96], boxes: [SwitchBox; 96]) -> bool
     ensures { λ r. ⌜ r ≡ (ltb 96 m || switchBoxesFault k m plans boxes) ⌝ }
 {
     if m > 96 {

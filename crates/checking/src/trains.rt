@@ -1,5 +1,4 @@
 // Code 27 at the trains of a line.
-use layout::placing;
 use rules::Message;
 use rules::Request;
 use rules::Train;

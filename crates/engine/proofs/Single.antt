@@ -24,7 +24,7 @@ use Rattle.rules.specs.Record.{trainsFault, switchBoxesFault, recordFault, chec
 use Rattle.rules.proofs.Tests.{or-left, or-right}
 use Rattle.rules.proofs.Accepted.{Limits, accepted}
 use Rattle.rules.proofs.Steps.{form-row-iff, step-unformed, step-unknown}
-use Rattle.layout.proofs.Tracks.{parts-answer}
+use Rattle.layout.proofs.Codes.{parts-answer}
 use Rattle.traincomputer.specs.Sight.{aroundIn}
 use Rattle.running.specs.Loop.{Columns, standing}
 use Rattle.running.proofs.Turn.{track-shown, points-shown, around-shown, Taken, Turned, train-read}

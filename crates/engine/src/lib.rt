@@ -1,5 +1,4 @@
 // The line engine: a single step on any line record, and a run of a table file and all its steps.
-use layout::network;
 use rules::Effect;
 use rules::Line;
 use rules::Outcome;
@@ -59,7 +58,7 @@ pub fn step(mut line: Line, kind: u8, train: u8, number: u8) -> Outcome
         return Outcome { code: 27, line };
     }
     let boxes = line.boxes;
-    if checking::boxes::some_box_faulty(line.table.k, line.table.m, plans, boxes) {
+    if checking::boxes::some_box_record_faulty(line.table.k, line.table.m, plans, boxes) {
         return Outcome { code: 27, line };
     }
     let form = deciding::form_code(kind, number);

@@ -1,20 +1,16 @@
--- The codes of a table's head and network by the tests that lead to them, rows of codes one after the other, and what the
--- head's rows leave where none applies.
+-- The codes of a table's head by the tests that lead to them, and rows of codes one after the other.
 use Prim.Native.Nat.{ℕ, _≤_, _<_}
 use mathlib.Core.Path.{_≡_, refl, sym, _∙_}
-use mathlib.Core.Bool.{true, false, _||_}
-use mathlib.Core.List.{List, [], _∷_, _++_}
-use borrow.Author.Tests.{le-ltb}
-use lib.Dec.{ltb}
-use Rattle.rules.specs.Rows.{_if_, first, anyOf, outside}
-use Rattle.rules.specs.Track.{Track}
-use Rattle.rules.specs.Loop.{hasLoop}
-use Rattle.rules.specs.Network.{headRows, limitsFault, knownVersion, endsFault, planFaultAt, boxFaultAt, unlistedFault, networkRows}
-use Rattle.rules.specs.Placing.{placingRows, partsCode}
+use mathlib.Core.Bool.{true, false}
+use mathlib.Core.List.{List, _++_}
 use Rattle.rules.specs.declared.BoxPlan.{BoxPlan}
 use Rattle.rules.specs.declared.TrainPlan.{TrainPlan}
-use Rattle.rules.proofs.Tests.{tests, first-before, first-none, first-hit, first-skip, first-zero-iff, or-left, or-right, or-false}
-use Rattle.rules.proofs.Accepted.{Limits, limits-iff}
+use Rattle.rules.specs.declared.Table.{Table}
+use Rattle.rules.specs.Rows.{first, outside}
+use Rattle.rules.specs.Track.{Track, trackOf}
+use Rattle.rules.specs.Network.{headRows, limitsFault, knownVersion, networkRows}
+use Rattle.rules.specs.Placing.{placingRows, partsCode, tableCode}
+use Rattle.rules.proofs.Tests.{tests, first-before, first-skip, first-zero-iff}
 
 module _ (version n m k : ℕ) where
   -- Codes 3 and 4, each by the tests before it, and none.
@@ -47,13 +43,6 @@ module _ (version n m k : ℕ) where
     unfolding headRows knownVersion limitsFault first
     head-0 segments low high trains = search tests
 
-  -- A head that is accepted keeps its limits.
-  pub head-limits : (h : ℕ) → h ≡ first (headRows version n m k) → h ≡ 0 → Limits n m k
-  unfolding headRows
-  head-limits h e z =
-      let (version, (limits, _)) = simp first-zero-iff at (sym e ∙ z) in
-      limits-iff n m k .0 limits
-
   module _ (track : Track) (plans : List BoxPlan) (trains : List TrainPlan) (routes : List ℕ) where
     head-clear : first (headRows version n m k) ≡ 0 → partsCode version n m k track plans trains routes ≡ first (networkRows n m track plans ++ placingRows n k track trains routes)
     unfolding partsCode headRows
@@ -78,37 +67,8 @@ module _ (version n m k : ℕ) where
     pub placing-counts : (h c r : ℕ) → h ≡ first (headRows version n m k) → h ≡ 0 → c ≡ first (networkRows n m track plans) → c ≡ 0 → r ≡ first (placingRows n k track trains routes) → r ≡ partsCode version n m k track plans trains routes
     placing-counts h c r e z f y g = g ∙ sym (network-clear (sym f ∙ y)) ∙ sym (head-clear (sym e ∙ z))
 
--- Codes 6 to 9, each by the tests before it, and none.
-module _ (n m : ℕ) (track : Track) (plans : List BoxPlan) where
-  abbrev Code : ℕ → Type 0
-  Code c = c ≡ first (networkRows n m track plans)
-
-  pub network-6 : anyOf n (endsFault m track) ≡ true → Code 6
-  unfolding networkRows
-  network-6 e = first-hit _ _ _ e refl
-
-  module _ (ends : anyOf n (endsFault m track) ≡ false) where
-    pub network-7 : anyOf m (planFaultAt n plans) ≡ true → Code 7
-    unfolding networkRows
-    network-7 e = first-skip _ _ _ ends (first-hit _ _ _ e refl)
-
-    module _ (kinds : anyOf m (planFaultAt n plans) ≡ false) where
-      pub boxes-8 : anyOf m (boxFaultAt track plans) ≡ true → Code 8
-      unfolding networkRows
-      boxes-8 e = first-skip _ _ _ ends (first-skip _ _ _ kinds (first-hit _ _ _ (or-left _ _ e) refl))
-
-      pub segments-8 : anyOf n (unlistedFault track plans) ≡ true → Code 8
-      unfolding networkRows
-      segments-8 e = first-skip _ _ _ ends (first-skip _ _ _ kinds (first-hit _ _ _ (or-right (anyOf m (boxFaultAt track plans)) _ e) refl))
-
-      module _ (boxes : anyOf m (boxFaultAt track plans) ≡ false) (segments : anyOf n (unlistedFault track plans) ≡ false) where
-        past-8 : (c : ℕ) → c ≡ first (9 if hasLoop n track ∷ []) → Code c
-        unfolding networkRows
-        past-8 c e = first-skip _ _ _ ends (first-skip _ _ _ kinds (first-skip _ _ _ (or-false _ _ boxes segments) e))
-
-        module _ (few : n ≤ 96) where
-          pub network-9 : (ltb 96 n || hasLoop n track) ≡ true → Code 9
-          network-9 e = past-8 9 (first-hit _ _ _ (rw (le-ltb 96 n few) at e) refl)
-
-          pub network-0 : (ltb 96 n || hasLoop n track) ≡ false → Code 0
-          network-0 e = past-8 0 (first-skip _ _ _ (rw (le-ltb 96 n few) at e) (sym first-none))
+-- What a function answered for the parts of a table, r, is the table's code.
+pub parts-answer : (t : Table) (r : ℕ) {track : Track} → track ≡ trackOf t
+    → r ≡ partsCode (t .version) (t .n) (t .m) (t .k) track (t .boxes) (t .trains) (t .routes) → r ≡ tableCode t
+unfolding tableCode
+parts-answer t r made e = rw made at e

@@ -1,8 +1,2 @@
--- What stands in a column.
-pub mod Column
--- What the conditions say in the words of the functions that test them.
-pub mod Laws
-pub mod Routes
+-- The codes in their order.
 pub mod Codes
--- The columns of a table are its track.
-pub mod Tracks

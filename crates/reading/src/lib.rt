@@ -2,7 +2,6 @@
 pub mod empty;
 mod start;
 
-use layout::network;
 use rules::Line;
 use rules::Outcome;
 use tablefile::head;

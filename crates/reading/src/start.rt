@@ -1,6 +1,5 @@
 // The boxes and the trains of the line at its start, by the parts of a table and by the boxes at the A ends and at the B ends of its
 // segments.
-use layout::network;
 use rules::BoxPlan;
 use rules::Message;
 use rules::SwitchBox;

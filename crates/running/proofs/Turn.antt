@@ -30,7 +30,7 @@ use Rattle.rules.proofs.Checked.{sound-here, sound-next}
 use Rattle.rules.proofs.Settled.{around-alike}
 use Rattle.rules.proofs.Staying.{Stays, stays-alike}
 use Rattle.rules.proofs.Concerned.{ahead-there, passed-there, asked-there, concerned-there, unasked, box-room, train-room}
-use Rattle.layout.proofs.Tracks.{track-made}
+use Rattle.network.proofs.Tracks.{track-made}
 use Rattle.traincomputer.specs.Sight.{aroundIn}
 use Rattle.traincomputer.proofs.Points.{column-points}
 use Rattle.running.specs.Loop.{Columns, standing, Seen, noAround}

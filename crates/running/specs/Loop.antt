@@ -11,7 +11,7 @@ use Rattle.rules.specs.declared.Line.{Line}
 use Rattle.rules.specs.declared.Around.{Around}
 use Rattle.rules.specs.Track.{trackOf, farBox}
 use Rattle.rules.specs.Line.{noTrain}
-use Rattle.layout.specs.Column.{column}
+use Rattle.network.specs.Column.{column}
 use Rattle.traincomputer.specs.Sight.{kindOf}
 
 -- The columns of a table t: the boxes at the A ends and at the B ends of segments, and the kinds of boxes, each by number.

@@ -1,7 +1,6 @@
 // A run of a table file and all its steps: the reader, then the loop over steps.
 mod steps;
 
-use layout::network;
 use rules::Outcome;
 use traincomputer::sight;
 ghost use mathlib.Core.Path.{_≡_};

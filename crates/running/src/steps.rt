@@ -2,7 +2,6 @@
 use deciding::moves::clear;
 use deciding::moves::enter;
 use deciding::requests::answer;
-use layout::network;
 use rules::Around;
 use rules::Effect;
 use rules::SwitchBox;

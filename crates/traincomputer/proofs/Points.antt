@@ -5,8 +5,8 @@ use native.Mathlib.Omega.{arith}
 use lib.ListN.{length, getD}
 use Rattle.rules.specs.declared.Table.{Table}
 use Rattle.rules.specs.Track.{planAt, pointKind, isPoint, pointAt, pointIn}
-use Rattle.layout.specs.Column.{column}
-use Rattle.layout.proofs.Column.{column-all}
+use Rattle.network.specs.Column.{column}
+use Rattle.network.proofs.Column.{column-all}
 use Rattle.traincomputer.specs.Sight.{kindOf}
 use Rattle.traincomputer.proofs.Sights.{kind-past}
 

@@ -5,7 +5,7 @@ use rules::Train;
 ghost use mathlib.Core.Path.{_≡_};
 ghost use Prim.Native.Nat.{_-_};
 ghost use Rattle.rules.specs.Track.{routeAt, trackIn, farBox, nearBox};
-ghost use Rattle.layout.specs.Column.{column};
+ghost use Rattle.network.specs.Column.{column};
 ghost use Rattle.traincomputer.specs.Sight.{kindOf, aroundIn};
 
 // The kind of each box, by its number.

@@ -58,7 +58,7 @@ returns-2 c =
 returns-3 : tie.Need-returns-3
 returns-3 c =
     let trains = c .before .before .before .before in
-    box-faulty (coded (at-trains trains)) (asked (at-trains trains)) (sym (c .before .some-box-faulty .ensures) ∙ c .if3 .taken)
+    box-faulty (coded (at-trains trains)) (asked (at-trains trains)) (sym (c .before .some-box-record-faulty .ensures) ∙ c .if3 .taken)
 
 -- Nothing was found.
 abbrev checked : tie.Else3 → tie.After-parts-code
@@ -75,7 +75,7 @@ passed c =
       coded = coded (at-trains trains);
       table = trains .before .before .before .before .before .before .before .if1 .left;
       trains = sym (trains .some-train-faulty .ensures) ∙ c .before .before .before .if2 .left;
-      boxes = sym (boxes .some-box-faulty .ensures) ∙ c .if3 .left;
+      boxes = sym (boxes .some-box-record-faulty .ensures) ∙ c .if3 .left;
     }
 
 returns-4 : tie.Need-returns-4

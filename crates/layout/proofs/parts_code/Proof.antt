@@ -1,4 +1,4 @@
-use Rattle.layout.proofs.Codes.{head-counts, network-counts, placing-counts, head-limits}
+use Rattle.layout.proofs.Codes.{head-counts, network-counts, placing-counts}
 use borrow.Author.Needs.{needs}
 use Rattle.layout.proofs.parts_code.Statement.{statement}
 use Rattle.layout.proofs.parts_code.Tie as tie
@@ -10,16 +10,13 @@ returns : tie.Need-returns
 returns c = search head-counts
 
 network-code-requires : tie.Need-network-code-requires
-network-code-requires c κs =
-    let limits = head-limits _ _ _ _ _ (c .before .head-code .ensures) (c .if1 .left) in
-    (limits .segmentsHigh, limits .boxesHigh)
+network-code-requires c κs = search needs
 
 returns-2 : tie.Need-returns-2
 returns-2 c = search network-counts
 
 placing-code-requires : tie.Need-placing-code-requires
-placing-code-requires c κs =
-    head-limits _ _ _ _ _ (c .before .before .before .head-code .ensures) (c .before .before .if1 .left) .trainsHigh
+placing-code-requires c κs = search needs
 
 returns-3 : tie.Need-returns-3
 returns-3 c = search placing-counts

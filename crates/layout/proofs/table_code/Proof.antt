@@ -1,6 +1,7 @@
 -- The columns are the table's own.
 use Rattle.rules.proofs.Rows.{length-mapped}
-use Rattle.layout.proofs.Tracks.{track-made, parts-answer}
+use Rattle.network.proofs.Tracks.{track-made}
+use Rattle.layout.proofs.Codes.{parts-answer}
 use borrow.Author.Needs.{needs}
 use Rattle.layout.proofs.table_code.Statement.{statement}
 use Rattle.layout.proofs.table_code.Tie as tie

@@ -7,7 +7,8 @@ use lib.ListN.{length}
 use Rattle.rules.specs.Track.{trackOf, trackIn}
 use Rattle.rules.specs.File.{fileCode, decode}
 use Rattle.rules.proofs.Rows.{length-mapped}
-use Rattle.layout.proofs.Tracks.{track-made, parts-answer}
+use Rattle.network.proofs.Tracks.{track-made}
+use Rattle.layout.proofs.Codes.{parts-answer}
 use Rattle.tablefile.proofs.Files.{code-early, file-whole, table-some, code-late}
 use Rattle.reading.proofs.Begin.{start-line}
 use Rattle.reading.proofs.Accepted.{counted, read-refused, read-accepted}

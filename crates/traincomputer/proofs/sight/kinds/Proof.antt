@@ -4,8 +4,8 @@ use mathlib.Core.Path.{_≡_}
 use native.Mathlib.Omega.{arith}
 use borrow.Author.Needs.{needs}
 use Rattle.rules.proofs.Rows.{length-mapped}
-use Rattle.layout.specs.Column.{column}
-use Rattle.layout.proofs.Column.{Filled, fill-start, fill-turn, fill-end}
+use Rattle.network.specs.Column.{column}
+use Rattle.network.proofs.Column.{Filled, fill-start, fill-turn, fill-end}
 use Rattle.traincomputer.specs.Sight.{kindOf}
 use Rattle.traincomputer.proofs.Sights.{kind-none, kind-past, kind-at}
 use Rattle.traincomputer.proofs.sight.kinds.Statement.{statement}

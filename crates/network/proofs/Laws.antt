@@ -1,0 +1,115 @@
+-- What the conditions on a network say of the record at an index, in the words of the functions that test them.
+use Prim.Native.Nat.{ℕ, _+_, _-_, _≤_, _<_}
+use mathlib.Core.Path.{_≡_, sym, _∙_, ap}
+use mathlib.Core.Bool.{Bool, true, false, false≢true}
+use mathlib.Core.List.{List}
+use native.Mathlib.Numerals.{add-one}
+use native.Mathlib.Decide.{decLt}
+use native.Mathlib.Omega.{arith}
+use borrow.Author.Tests.{eq-eqb, ne-eqb}
+use lib.Dec.{eqb}
+use lib.ListN.{length, getD}
+use Rattle.rules.specs.declared.Segment.{Segment}
+use Rattle.rules.specs.declared.BoxPlan.{BoxPlan}
+use Rattle.rules.specs.Rows.{anyOf, outside, nth}
+use Rattle.rules.proofs.Tests.{tests, facts, answered, outside-false-iff, cond-same}
+use Rattle.rules.proofs.Accepted.{BoxOf}
+use Rattle.rules.proofs.Rows.{any-false-at, any-false, none-found, nth-at, nth-before, nth-past}
+use Rattle.rules.specs.Track.{noSegment, noBoxPlan, Track, trackBy, farBox}
+use Rattle.rules.specs.Network.{endsFault, planFault, lists, hasEndA, hasEndB, sideFault, boxFault, planFaultAt, boxFaultAt, unlistedFault}
+
+-- The box at index i is that of number i + 1; r is what a function answered for it, and v what a branch found.
+module _ (i : ℕ) (r v : Bool) where
+  pub plan-answer : (n : ℕ) (plans : List BoxPlan) → r ≡ planFault n (getD plans i noBoxPlan) → r ≡ v → planFaultAt n plans (i + 1) ≡ v
+  unfolding planFaultAt
+  plan-answer n plans e f = rw nth-at (answered _ _ _ e f)
+
+  pub box-answer : (track : Track) (plans : List BoxPlan) → r ≡ boxFault track (i + 1) (getD plans i noBoxPlan) → r ≡ v → boxFaultAt track plans (i + 1) ≡ v
+  unfolding boxFaultAt
+  box-answer track plans e f = rw nth-at (answered _ _ _ e f)
+
+-- More boxes than there are places: box 97 has no plan, and reads as one with segment 0 at its stem, which is at fault. So there
+-- are no more where no plan is at fault.
+module _ (n m : ℕ) (plans : List BoxPlan) (sized : length plans ≡ 96) where
+  pub many-boxes : 96 < m → true ≡ anyOf m (planFaultAt n plans)
+  unfolding planFaultAt planFault outside
+  many-boxes many =
+      none-found m (planFaultAt n plans) 96 many (rw (nth-past plans 97 noBoxPlan (omega arith)) (search tests depth 8))
+
+  pub few-boxes : anyOf m (planFaultAt n plans) ≡ false → m ≤ 96
+  few-boxes e =
+      elim (decLt 96 m) [
+        | yes l ↦ absurd (false≢true (sym (many-boxes l ∙ e)))
+        | no l ↦ omega arith
+      ]
+
+-- The far box of a segment that is none: 0; and of the segment at index i.
+module _ (l : List Segment) (d : ℕ) where
+  pub far-none : farBox (trackBy l) d 0 ≡ 0
+  unfolding farBox trackBy nth
+  far-none = cond-same (eqb d 0) 0
+
+  pub far-past : length l ≡ 96 → (x : ℕ) → 96 < x → farBox (trackBy l) d x ≡ 0
+  unfolding farBox trackBy
+  far-past e x h = rw (nth-past l x noSegment (omega arith)) (cond-same (eqb d 0) 0)
+
+  pub far-b : (i : ℕ) → d ≡ 0 → getD l i noSegment .b ≡ farBox (trackBy l) d (i + 1)
+  unfolding farBox trackBy nth
+  far-b i e = rw (add-one, eq-eqb d 0 e)
+
+  pub far-a : (i : ℕ) → (d ≡ 0 → ⊥) → getD l i noSegment .a ≡ farBox (trackBy l) d (i + 1)
+  unfolding farBox trackBy nth
+  far-a i e = rw (add-one, ne-eqb d 0 e)
+
+-- Where code 6 finds nothing, both ends of the segment at index i are at boxes.
+module _ (n m : ℕ) (track : Track) (none : anyOf n (endsFault m track) ≡ false) where
+  pub ends-within : (i : ℕ) → i < n → BoxOf m (track .endA (i + 1)) × BoxOf m (track .endB (i + 1))
+  unfolding endsFault
+  ends-within i h =
+      let both = simp (facts, outside-false-iff) at (any-false-at (endsFault m track) n (i + 1) none (omega arith) (omega arith)) in
+      omega arith
+
+  -- It finds nothing either where there are more boxes.
+  pub ends-wider : (p : ℕ) → m ≤ p → anyOf n (endsFault p track) ≡ false
+  unfolding endsFault
+  ends-wider p k =
+      any-false (endsFault p track) n λ s l h.
+      let (both, differ) = simp (facts, outside-false-iff) at (any-false-at (endsFault m track) n s none l h) in
+      simp (facts, outside-false-iff) (omega arith, differ)
+
+-- Code 8 at a branch s: there is none; it and the stem are at the box by their A ends, or by their B ends; and neither.
+module _ (track : Track) (b stem s : ℕ) where
+  pub no-branch : s ≡ 0 → false ≡ sideFault track b stem s
+  unfolding sideFault
+  no-branch e = search tests
+
+  module _ (branch : s ≡ 0 → ⊥) where
+    pub side-a : track .endA stem ≡ b → track .endA s ≡ b → true ≡ sideFault track b stem s
+    unfolding sideFault hasEndA
+    side-a e f = search tests depth 8
+
+    pub side-b : track .endB stem ≡ b → track .endB s ≡ b → true ≡ sideFault track b stem s
+    unfolding sideFault hasEndB
+    side-b e f = search tests depth 8
+
+    pub side-apart : (track .endA stem ≡ b → track .endA s ≡ b → ⊥) → (track .endB stem ≡ b → track .endB s ≡ b → ⊥)
+        → false ≡ sideFault track b stem s
+    unfolding sideFault hasEndA hasEndB
+    side-apart e f = sym (simp facts (λ _. (e, f)))
+
+-- What was found at the two boxes of a segment's ends.
+pub listed-at : (plans : List BoxPlan) (x s : ℕ) (r v : Bool) → 1 ≤ x → r ≡ lists (getD plans (x - 1) noBoxPlan) s → r ≡ v → lists (nth plans x noBoxPlan) s ≡ v
+listed-at plans x s r v l e f = ap (λ (p : BoxPlan). lists p s) (nth-before plans x noBoxPlan l) ∙ answered _ _ _ e f
+
+module _ (track : Track) (plans : List BoxPlan) (s : ℕ) where
+  pub unlisted-a : lists (nth plans (track .endA s) noBoxPlan) s ≡ false → unlistedFault track plans s ≡ true
+  unfolding unlistedFault
+  unlisted-a e = search tests depth 8
+
+  pub unlisted-b : lists (nth plans (track .endB s) noBoxPlan) s ≡ false → unlistedFault track plans s ≡ true
+  unfolding unlistedFault
+  unlisted-b e = search tests depth 8
+
+  pub listed-both : lists (nth plans (track .endA s) noBoxPlan) s ≡ true → lists (nth plans (track .endB s) noBoxPlan) s ≡ true → unlistedFault track plans s ≡ false
+  unfolding unlistedFault
+  listed-both e f = search tests depth 8

@@ -1,0 +1,161 @@
+// The network of a table: codes 6 to 9, by the boxes at the A ends and at the B ends of its segments. Here are 6 and 7, the ends of
+// segments and the plans of boxes; `listing` has 8, the segments that boxes list, and the crate `loops` has 9.
+mod listing;
+
+use rules::BoxPlan;
+use rules::Segment;
+ghost use mathlib.Core.Path.{_≡_};
+ghost use Rattle.rules.specs.Rows.{first, anyOf, outside};
+ghost use Rattle.rules.specs.Track.{trackBy, trackIn, farBox, positionFits};
+ghost use Rattle.rules.specs.Network.{endsFault, placeFault, branchesFault, planFault, planFaultAt, networkRows};
+ghost use Rattle.network.specs.Column.{column};
+
+// x is 0 or above n.
+pub fn outside(n: u8, x: u8) -> bool
+    ensures { λ r. ⌜ r ≡ outside n x ⌝ }
+{
+    if x == 0 {
+        return true;
+    }
+    x > n
+}
+
+// The box at the far end of each segment in direction d, by the segment's number: B ends for 0, A ends for any other.
+pub fn far_boxes(segments: [Segment; 96], d: u8) -> [u8; 256]
+    ensures { λ r. ⌜ r ≡ column (farBox (trackBy segments) d) ⌝ }
+{
+    let mut boxes = [0u8; 256];
+    let mut i: usize = 0;
+    while i < 96 {
+        let s = segments[i];
+        i += 1;
+        boxes[i] = if d == 0 { s.b } else { s.a };
+    }
+    boxes
+}
+
+// Code 6 at segment s.
+fn ends_faulty(m: u8, s: u8, a: &[u8; 256], b: &[u8; 256]) -> bool
+    ensures { λ r. ⌜ r ≡ endsFault m (trackIn (now (a .entry)) (now (b .entry))) s ⌝ }
+{
+    let x = a[s as usize];
+    let y = b[s as usize];
+    if outside(m, x) {
+        return true;
+    }
+    if outside(m, y) {
+        return true;
+    }
+    x == y
+}
+
+// Code 6: some segment has an end at no box, or both ends at one box.
+fn some_ends_faulty(n: u8, m: u8, a: &[u8; 256], b: &[u8; 256]) -> bool
+    ensures { λ r. ⌜ r ≡ anyOf n (endsFault m (trackIn (now (a .entry)) (now (b .entry)))) ⌝ }
+{
+    let mut s: u8 = 0;
+    while s < n {
+        s += 1;
+        if ends_faulty(m, s, a, b) {
+            return true;
+        }
+    }
+    false
+}
+
+// Code 7, a place that a box needs, and one that it does not use.
+fn place_faulty(n: u8, needed: bool, s: u8) -> bool
+    ensures { λ r. ⌜ r ≡ placeFault n needed s ⌝ }
+{
+    if needed {
+        return outside(n, s);
+    }
+    s != 0
+}
+
+// A position that a box of this kind can have.
+pub fn position_fits(p: BoxPlan, x: u8) -> bool
+    ensures { λ r. ⌜ r ≡ positionFits p x ⌝ }
+{
+    if p.kind == 2 {
+        if x == 1 {
+            return true;
+        }
+        return x == 2;
+    }
+    x == 0
+}
+
+// Code 7: a point with one segment at both branches.
+fn branches_faulty(p: BoxPlan) -> bool
+    ensures { λ r. ⌜ r ≡ branchesFault p ⌝ }
+{
+    if p.kind != 2 {
+        return false;
+    }
+    p.left == p.right
+}
+
+// Code 7 on one box.
+fn plan_faulty(n: u8, p: BoxPlan) -> bool
+    ensures { λ r. ⌜ r ≡ planFault n p ⌝ }
+{
+    if p.kind > 2 {
+        return true;
+    }
+    if outside(n, p.stem) {
+        return true;
+    }
+    if place_faulty(n, p.kind >= 1, p.left) {
+        return true;
+    }
+    if place_faulty(n, p.kind == 2, p.right) {
+        return true;
+    }
+    if branches_faulty(p) {
+        return true;
+    }
+    !position_fits(p, p.position)
+}
+
+// Code 7: some box is not as its kind asks.
+fn some_plan_faulty(n: u8, m: u8, plans: [BoxPlan; 96]) -> bool
+    ensures { λ r. ⌜ r ≡ anyOf m (planFaultAt n plans) ⌝ }
+{
+    // Box 97 has no plan: it reads as one with segment 0 at its stem, which is at fault.
+    if m > 96 {
+        return true;
+    }
+    let last = m as usize;
+    let mut i: usize = 0;
+    while i < last {
+        let p = plans[i];
+        if plan_faulty(n, p) {
+            return true;
+        }
+        i += 1;
+    }
+    false
+}
+
+// Codes 6 to 9 of n segments and m boxes.
+pub fn network_code(n: u8, m: u8, plans: [BoxPlan; 96], a: &[u8; 256], b: &[u8; 256]) -> u8
+    ensures { λ r. ⌜ r ≡ first (networkRows n m (trackIn (now (a .entry)) (now (b .entry))) plans) ⌝ }
+{
+    if some_ends_faulty(n, m, a, b) {
+        return 6;
+    }
+    if some_plan_faulty(n, m, plans) {
+        return 7;
+    }
+    if listing::some_listing_faulty(m, plans, a, b) {
+        return 8;
+    }
+    if listing::some_unlisted(n, plans, a, b) {
+        return 8;
+    }
+    if loops::has_loop(n, m, plans, a, b) {
+        return 9;
+    }
+    0
+}

@@ -1,0 +1,2 @@
+-- What the conditions say in the words of the functions that test them.
+pub mod Routes

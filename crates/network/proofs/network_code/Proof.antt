@@ -1,4 +1,5 @@
 -- The codes in their order, by the tests that led to each return.
+use Prim.Native.Nat.{_≤_}
 use mathlib.Core.Path.{_≡_}
 use mathlib.Core.Bool.{false}
 use borrow.Author.Needs.{needs}
@@ -29,6 +30,10 @@ segments-fine : (c : tie.Else4) →
     anyOf (s .n) (unlistedFault (trackIn (s .a .now) (s .b .now)) (s .plans)) ≡ false
 segments-fine c = answered _ _ _ (c .before .some-unlisted .ensures) (c .if4 .left)
 
+-- Past the second test no plan is at fault, so that there are no more boxes than places.
+few : (c : tie.Else2) → c .before .before .before .before .args .m ≤ 96
+few c = few-boxes _ _ _ (search (needs, length-mapped)) (plans-fine c)
+
 some-ends-faulty-requires : tie.Need-some-ends-faulty-requires
 some-ends-faulty-requires c κs = search needs
 
@@ -45,7 +50,7 @@ returns-2 c =
     (answered _ _ _ (c .before .some-plan-faulty .ensures) (c .if2 .taken))
 
 some-listing-faulty-requires : tie.Need-some-listing-faulty-requires
-some-listing-faulty-requires c κs = few-boxes _ _ _ (search (needs, length-mapped)) (plans-fine c)
+some-listing-faulty-requires c κs = few c
 
 returns-3 : tie.Need-returns-3
 returns-3 c =
@@ -58,7 +63,7 @@ returns-3 c =
 some-unlisted-requires : tie.Need-some-unlisted-requires
 some-unlisted-requires c κs =
     let plans = c .before .before in
-    ends-wider _ _ _ (ends-fine (plans .before .before)) 96 (few-boxes _ _ _ (search (needs, length-mapped)) (plans-fine plans))
+    ends-wider _ _ _ (ends-fine (plans .before .before)) 96 (few plans)
 
 returns-4 : tie.Need-returns-4
 returns-4 c =

@@ -15,7 +15,7 @@ returns : tie.Need-returns
 returns c =
     let code = c .before .before .route-code .ensures in
     let refused : routeCode _ _ ≡ 0 → ⊥ = λ e. c .before .if1 .taken (code ∙ e) in
-    (code, (placed _ _ 0 (from-none _ _ refused), part-none _ _ refused))
+    (code, (placed (c .before .before .before .before .args .bytes .ptr) _ 0 (from-none _ _ refused), part-none _ _ refused))
 
 -- The route's code is 0 past the test.
 taken : (c : tie.Else1) → routeCode (c .before .before .before .args .bytes .now) (c .before .before .before .args .train) ≡ 0

@@ -1,104 +1,106 @@
 // The answers to a file, as a line of text with a space between them. Each is a code and, where bytes come with it, a colon and
 // the bytes in hexadecimal.
 ghost use Prim.Native.Nat.{_≤_};
-use crate::text::add;
-use crate::text::add_decimal;
-use crate::text::add_hex;
+ghost use mathlib.Core.Path.{_≡_};
+ghost use lib.ListN.{length};
+use crate::parts::byte;
+use crate::parts::part;
+use crate::text::put;
+use crate::text::put_decimal;
+use crate::text::put_hex;
+use rules::Table;
 
 // Room for each file of a corpus. A file that is not refused for its length has at most 4,792 bytes.
-pub const LONGEST: usize = 4800;
+const LONGEST: usize = 4800;
 
 // Decides a file. A refused file's line has the reader's code alone, an accepted one's also the writer's answers and the routes.
-pub(crate) fn decide(file: &[u8], out: &mut [u8], filled: usize) -> usize {
+pub(crate) fn decide(file: &[u8]) {
     let outcome = reading::read(file);
     let code = outcome.code;
-    let read = add_decimal(out, filled, code);
-    if code != 0 {
-        return add(out, read, b'\n');
+    put_decimal(code);
+    if code == 0 {
+        let table = outcome.line.table;
+        put_written(table);
+        put_routes(file, table.k);
     }
-    let line = outcome.line;
-    let table = line.table;
-    let written = add_written(table, out, read);
-    let routed = add_routes(file, table.k, out, written);
-    add(out, routed, b'\n')
+    put(b'\n');
+}
+
+// Decides the file with the byte at an index changed.
+pub(crate) fn decide_changed(file: &[u8], index: usize, value: u8) {
+    let mut changed = [0u8; LONGEST];
+    copy_changed(file, index, value, &mut changed);
+    decide(part(&changed, 0, file.len()));
+}
+
+fn copy_changed(from: &[u8], index: usize, value: u8, to: &mut [u8; 4800])
+    requires { ⌜ 4800 ≡ length (now to) ⌝ }
+    ensures { λ _. ⌜ 4800 ≡ length (now (to .exit)) ⌝ }
+{
+    let mut i = 0;
+    while i < 4800 {
+        to[i] = changed_byte(from, i, index, value);
+        i += 1;
+    }
+}
+
+fn changed_byte(from: &[u8], i: usize, index: usize, value: u8) -> u8 {
+    if i == index { value } else { byte(from, i) }
 }
 
 // The writer's code and bytes for a buffer as long as the file, and its code for one that is a byte shorter.
-fn add_written(table: rules::Table, out: &mut [u8], filled: usize) -> usize {
+fn put_written(table: Table) {
     let size = writing::file_size(table);
-    if size == 0 {
-        return filled;
+    if size > 0 {
+        if size <= LONGEST {
+            put_write_in(table, size);
+            put_write_in(table, size - 1);
+        }
     }
-    if size > LONGEST {
-        return filled;
-    }
-    let written = add_file(table, size, out, filled);
-    let spaced = add(out, written, b' ');
-    let refusal = write_code(table, size - 1);
-    add_decimal(out, spaced, refusal)
 }
 
-// The writer's code and bytes for a buffer of this size.
-fn add_file(table: rules::Table, size: usize, out: &mut [u8], filled: usize) -> usize
+// The writer's answer for a buffer of this size.
+fn put_write_in(table: Table, size: usize)
     requires { ⌜ size ≤ 4800 ⌝ }
 {
     let mut buffer = [0u8; LONGEST];
-    add_write(table, &mut buffer[0..size], out, filled)
+    put_write(table, &mut buffer[0..size]);
 }
 
-// The same for a lent buffer.
-fn add_write(table: rules::Table, buffer: &mut [u8], out: &mut [u8], filled: usize) -> usize {
+// The writer's code for a lent buffer and, where it is 0, the bytes.
+fn put_write(table: Table, buffer: &mut [u8]) {
     let code = writing::write(table, buffer);
-    add_answer(out, filled, code, buffer)
+    put(b' ');
+    put_decimal(code);
+    if code == 0 {
+        put(b':');
+        put_hex(buffer);
+    }
 }
 
-// The writer's code for a buffer of this size.
-fn write_code(table: rules::Table, size: usize) -> u8
-    requires { ⌜ size ≤ 4800 ⌝ }
-{
-    let mut buffer = [0u8; LONGEST];
-    writing::write(table, &mut buffer[0..size])
-}
-
-// The routes of the trains 0 to k + 1, as far as they are shown.
-fn add_routes(file: &[u8], k: u8, out: &mut [u8], filled: usize) -> usize {
-    let last = one_more(k);
-    let mut at = filled;
+// The routes of the trains 0 to k + 1; of a file of 60 bytes or more only those of the trains 1 and k + 1.
+fn put_routes(file: &[u8], k: u8) {
+    let last = std::num::wrapping_add_u8(k, 1);
     let mut train = 0;
     while train < last {
-        at = add_shown(file, train, out, at);
+        if train == 1 || file.len() < 60 {
+            put_route(file, train);
+        }
         train += 1;
     }
-    add_route(file, last, out, at)
-}
-
-// A train's code and route; of a file of 60 bytes or more only train 1 is shown among those up to k.
-fn add_shown(file: &[u8], train: u8, out: &mut [u8], filled: usize) -> usize {
-    if train != 1 && file.len() >= 60 {
-        return filled;
-    }
-    add_route(file, train, out, filled)
-}
-
-fn one_more(k: u8) -> u8 {
-    if k < 255 { k + 1 } else { k }
+    put_route(file, last);
 }
 
 // A train's code and route.
-fn add_route(file: &[u8], train: u8, out: &mut [u8], filled: usize) -> usize {
+fn put_route(file: &[u8], train: u8) {
     let code = tablefile::route_code(file, train);
-    add_answer(out, filled, code, tablefile::route(file, train))
-}
-
-// A space, a code, a colon and bytes.
-fn add_answer(out: &mut [u8], filled: usize, code: u8, bytes: &[u8]) -> usize {
-    let spaced = add(out, filled, b' ');
-    add_coded(out, spaced, code, bytes)
+    put(b' ');
+    put_coded(code, tablefile::route(file, train));
 }
 
 // A code, a colon and bytes.
-pub(crate) fn add_coded(out: &mut [u8], filled: usize, code: u8, bytes: &[u8]) -> usize {
-    let coded = add_decimal(out, filled, code);
-    let parted = add(out, coded, b':');
-    add_hex(out, parted, bytes)
+pub(crate) fn put_coded(code: u8, bytes: &[u8]) {
+    put_decimal(code);
+    put(b':');
+    put_hex(bytes);
 }

@@ -1,60 +1,51 @@
 // Changes of a line record, one field each. A change is four bytes: the part of the record, the index of its record there, the
 // field, and the value that it gets. A change of a part, an index or a field that is not there does nothing.
-use rules::BoxPlan;
+use crate::parts::byte;
+use crate::parts::part;
 use rules::Line;
 use rules::Message;
 use rules::Request;
-use rules::Segment;
-use rules::SwitchBox;
 use rules::Table;
 use rules::Train;
-use rules::TrainPlan;
+use std::num::wrapping_add_usize;
 
-// The line after all changes.
-pub(crate) fn altered(start: Line, changes: &[u8]) -> Line {
-    let count = changes.len() / 4;
+// The line after so many changes.
+pub(crate) fn altered(start: Line, changes: &[u8], count: u8) -> Line {
     let mut line = start;
-    let mut i = 0;
-    while i < count {
-        let at = 4 * i;
-        line = changed(
-            line,
-            changes[at],
-            changes[at + 1],
-            changes[at + 2],
-            changes[at + 3],
-        );
-        i += 1;
+    let mut left = count;
+    let mut at = 0;
+    while left > 0 {
+        line = changed(line, part(changes, at, 4));
+        at = wrapping_add_usize(at, 4);
+        left -= 1;
     }
     line
 }
 
-fn changed(line: Line, part: u8, number: u8, field: u8, value: u8) -> Line {
-    let index = number as usize;
-    let table = line.table;
+// The line after one change: of its boxes, trains and routes as they stand, or of its table.
+fn changed(mut line: Line, change: &[u8]) -> Line {
+    let part = byte(change, 0);
+    let index = byte(change, 1) as usize;
+    let field = byte(change, 2);
+    let value = byte(change, 3);
     match part {
-        b'h' => with_table(line, change_head(table, field, value)),
-        b's' => with_table(line, change_segment(table, index, field, value)),
-        b'p' => with_table(line, change_plan(table, index, field, value)),
-        b'd' => with_table(line, change_train_plan(table, index, field, value)),
-        b'r' => with_table(line, change_table_route(table, index, field, value)),
-        b'R' => change_route(line, index, field, value),
-        b'b' => change_box(line, index, field, value),
-        b't' => change_train(line, index, field, value),
-        b'm' => change_message(line, index, field, value),
-        _ => line,
+        b'R' => line = change_route(line, index, field, value),
+        b'b' => line = change_box(line, index, field, value),
+        b't' => line = change_train(line, index, field, value),
+        b'm' => line = change_message(line, index, field, value),
+        _ => line.table = table_after(line.table, part, index, field, value),
     }
+    line
 }
 
-fn with_table(line: Line, table: Table) -> Line {
-    let boxes = line.boxes;
-    let trains = line.trains;
-    let routes = line.routes;
-    Line {
-        table,
-        boxes,
-        trains,
-        routes,
+fn table_after(table: Table, part: u8, index: usize, field: u8, value: u8) -> Table {
+    match part {
+        b'h' => change_head(table, field, value),
+        b's' => change_segment(table, index, field, value),
+        b'p' => change_plan(table, index, field, value),
+        b'd' => change_train_plan(table, index, field, value),
+        b'r' => change_table_route(table, index, field, value),
+        _ => table,
     }
 }
 
@@ -74,49 +65,46 @@ fn change_head(mut table: Table, field: u8, value: u8) -> Table {
 // A segment's A end and B end.
 fn change_segment(mut table: Table, index: usize, field: u8, value: u8) -> Table {
     if index < 96 {
-        table.segments[index] = segment_after(table.segments[index], field, value);
+        let mut s = table.segments[index];
+        match field {
+            0 => s.a = value,
+            1 => s.b = value,
+            _ => {}
+        }
+        table.segments[index] = s;
     }
     table
-}
-
-fn segment_after(s: Segment, field: u8, value: u8) -> Segment {
-    Segment {
-        a: if field == 0 { value } else { s.a },
-        b: if field == 1 { value } else { s.b },
-    }
 }
 
 // A box in the table: kind, stem, left, right, position.
 fn change_plan(mut table: Table, index: usize, field: u8, value: u8) -> Table {
     if index < 96 {
-        table.boxes[index] = plan_after(table.boxes[index], field, value);
+        let mut p = table.boxes[index];
+        match field {
+            0 => p.kind = value,
+            1 => p.stem = value,
+            2 => p.left = value,
+            3 => p.right = value,
+            4 => p.position = value,
+            _ => {}
+        }
+        table.boxes[index] = p;
     }
     table
-}
-
-fn plan_after(p: BoxPlan, field: u8, value: u8) -> BoxPlan {
-    BoxPlan {
-        kind: if field == 0 { value } else { p.kind },
-        stem: if field == 1 { value } else { p.stem },
-        left: if field == 2 { value } else { p.left },
-        right: if field == 3 { value } else { p.right },
-        position: if field == 4 { value } else { p.position },
-    }
 }
 
 // A train in the table: direction and length.
 fn change_train_plan(mut table: Table, index: usize, field: u8, value: u8) -> Table {
     if index < 16 {
-        table.trains[index] = train_plan_after(table.trains[index], field, value);
+        let mut p = table.trains[index];
+        match field {
+            0 => p.direction = value,
+            1 => p.length = value,
+            _ => {}
+        }
+        table.trains[index] = p;
     }
     table
-}
-
-fn train_plan_after(d: TrainPlan, field: u8, value: u8) -> TrainPlan {
-    TrainPlan {
-        direction: if field == 0 { value } else { d.direction },
-        length: if field == 1 { value } else { d.length },
-    }
 }
 
 // The segment at a place, from 0, of a train's route in the table.
@@ -142,42 +130,38 @@ fn change_route(mut line: Line, index: usize, place: u8, value: u8) -> Line {
 // A switch box: sensor (0 passive), position, lock, and the holders at stem, left and right.
 fn change_box(mut line: Line, index: usize, field: u8, value: u8) -> Line {
     if index < 96 {
-        line.boxes[index] = box_after(line.boxes[index], field, value);
+        let mut x = line.boxes[index];
+        match field {
+            0 => x.sensor = value != 0,
+            1 => x.position = value,
+            2 => x.lock = value,
+            3 => x.stem = value,
+            4 => x.left = value,
+            5 => x.right = value,
+            _ => {}
+        }
+        line.boxes[index] = x;
     }
     line
-}
-
-fn box_after(x: SwitchBox, field: u8, value: u8) -> SwitchBox {
-    SwitchBox {
-        sensor: if field == 0 { value != 0 } else { x.sensor },
-        position: if field == 1 { value } else { x.position },
-        lock: if field == 2 { value } else { x.lock },
-        stem: if field == 3 { value } else { x.stem },
-        left: if field == 4 { value } else { x.left },
-        right: if field == 5 { value } else { x.right },
-    }
 }
 
 // A train: direction, length, place, covered, and whether near end, far end and lock are recorded (0 not).
 fn change_train(mut line: Line, index: usize, field: u8, value: u8) -> Line {
     if index < 16 {
-        line.trains[index] = train_after(line.trains[index], field, value);
+        let mut r = line.trains[index];
+        match field {
+            0 => r.direction = value,
+            1 => r.length = value,
+            2 => r.place = value,
+            3 => r.covered = value,
+            4 => r.near = value != 0,
+            5 => r.far = value != 0,
+            6 => r.lock = value != 0,
+            _ => {}
+        }
+        line.trains[index] = r;
     }
     line
-}
-
-fn train_after(r: Train, field: u8, value: u8) -> Train {
-    let message = r.message;
-    Train {
-        direction: if field == 0 { value } else { r.direction },
-        length: if field == 1 { value } else { r.length },
-        place: if field == 2 { value } else { r.place },
-        covered: if field == 3 { value } else { r.covered },
-        near: if field == 4 { value != 0 } else { r.near },
-        far: if field == 5 { value != 0 } else { r.far },
-        lock: if field == 6 { value != 0 } else { r.lock },
-        message,
-    }
 }
 
 // A train's message.

@@ -4,34 +4,23 @@
 mod answers;
 mod changes;
 mod numbers;
+mod parts;
 mod records;
 mod runs;
 mod text;
 
-use answers::LONGEST;
-use records::Place;
+ghost use mathlib.Core.Path.{_≡_};
+ghost use lib.ListN.{length};
 
-// Decides the records of a corpus one after the other. A record is at least one byte long, so there are no more turns than bytes.
-fn decide_all(corpus: &[u8], base: &mut [u8], out: &mut [u8]) {
-    let mut place = Place {
-        next: 0,
-        size: 0,
-        steps: 0,
-        length: 0,
-        filled: 0,
-    };
-    let mut turns = corpus.len();
-    while turns > 0 && place.next < corpus.len() {
-        place = records::decide_next(corpus, place, base, out);
-        turns -= 1;
-    }
-    text::flush(out, place.filled);
+// Room for a corpus.
+fn room() -> [u8; 262144]
+    ensures { λ r. ⌜ 262144 ≡ length r ⌝ }
+{
+    [0; 262144]
 }
 
 fn main() {
-    let mut corpus = [0u8; 262144];
+    let mut corpus = room();
     let length = io::read_full(libc::STDIN_FILENO, &mut corpus);
-    let mut base = [0u8; LONGEST];
-    let mut out = [0u8; 65536];
-    decide_all(&corpus[..length], &mut base, &mut out);
+    records::decide_all(&corpus[..length]);
 }

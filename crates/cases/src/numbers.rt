@@ -1,7 +1,8 @@
-// A line's trains and boxes as text: 11 bytes a train and 6 a box, in hexadecimal, with a colon between trains and boxes.
+// A line's trains and boxes as text: 11 bytes a train and 6 a box, in hexadecimal, with a space before them and a colon between
+// trains and boxes.
 ghost use Prim.Native.Nat.{_≤_};
-use crate::text::add;
-use crate::text::add_hex;
+use crate::text::put;
+use crate::text::put_hex;
 use rules::Line;
 use rules::Message;
 use rules::Request;
@@ -9,51 +10,39 @@ use rules::SwitchBox;
 use rules::Train;
 
 // The trains 1 to k and the boxes 1 to m, as far as there are records.
-pub(crate) fn add_line(line: Line, out: &mut [u8], filled: usize) -> usize {
-    let table = line.table;
-    let trains = add_trains(line, table.k, out, filled);
-    let parted = add(out, trains, b':');
-    add_boxes(line, table.m, out, parted)
+pub(crate) fn put_line(line: Line) {
+    put(b' ');
+    let trains = line.trains;
+    put_trains(trains, line.table.k);
+    put(b':');
+    let boxes = line.boxes;
+    put_boxes(boxes, line.table.m);
 }
 
-fn add_trains(line: Line, k: u8, out: &mut [u8], filled: usize) -> usize {
-    let last = at_most(k, 16);
-    let mut at = filled;
+fn put_trains(trains: [Train; 16], k: u8) {
     let mut i = 0;
-    while i < last {
-        let train = line.trains[i];
-        at = add_train(train, out, at);
+    while i < k {
+        if i < 16 {
+            let train = trains[i as usize];
+            put_train(train);
+        }
         i += 1;
     }
-    at
 }
 
-fn add_boxes(line: Line, m: u8, out: &mut [u8], filled: usize) -> usize {
-    let last = at_most(m, 96);
-    let mut at = filled;
+fn put_boxes(boxes: [SwitchBox; 96], m: u8) {
     let mut i = 0;
-    while i < last {
-        let switchbox = line.boxes[i];
-        at = add_box(switchbox, out, at);
+    while i < m {
+        if i < 96 {
+            let switchbox = boxes[i as usize];
+            put_box(switchbox);
+        }
         i += 1;
     }
-    at
 }
 
-// The smaller of two numbers.
-fn at_most(number: u8, most: u8) -> usize
-    ensures { λ r. ⌜ r ≤ most ⌝ }
-{
-    if number < most {
-        number as usize
-    } else {
-        most as usize
-    }
-}
-
-// Direction, length, place, covered, near, far, lock; and of the message state, kind, box and code.
-fn add_train(train: Train, out: &mut [u8], filled: usize) -> usize {
-    let message = train.message;
+// Direction, length, place, covered, near, far, lock; and the message.
+fn put_train(train: Train) {
     let numbers = [
         train.direction,
         train.length,
@@ -62,16 +51,14 @@ fn add_train(train: Train, out: &mut [u8], filled: usize) -> usize {
         bit(train.near),
         bit(train.far),
         bit(train.lock),
-        state(message),
-        kind(message),
-        box_asked(message),
-        answer(message),
     ];
-    add_hex(out, filled, &numbers)
+    put_hex(&numbers);
+    let message = train.message;
+    put_message(message);
 }
 
 // Sensor, position, lock, and the holders at stem, left and right.
-fn add_box(switchbox: SwitchBox, out: &mut [u8], filled: usize) -> usize {
+fn put_box(switchbox: SwitchBox) {
     let numbers = [
         bit(switchbox.sensor),
         switchbox.position,
@@ -80,59 +67,30 @@ fn add_box(switchbox: SwitchBox, out: &mut [u8], filled: usize) -> usize {
         switchbox.left,
         switchbox.right,
     ];
-    add_hex(out, filled, &numbers)
+    put_hex(&numbers);
 }
 
 fn bit(set: bool) -> u8 {
     if set { 1 } else { 0 }
 }
 
-// A message's state: 0 none, 1 sent, 2 answered.
-fn state(message: Message) -> u8 {
+// A message's state (0 none, 1 sent, 2 answered), and its request's kind and box and its answer, 0 where there is none.
+fn put_message(message: Message) {
     match message {
-        Message::Idle => 0,
-        Message::Sent(_) => 1,
-        Message::Answered(_, _) => 2,
+        Message::Idle => put_numbers(0, 0, 0, 0),
+        Message::Sent(q) => put_request(1, q, 0),
+        Message::Answered(q, code) => put_request(2, q, code),
     }
 }
 
-// The kind of a message's request; 0 for none.
-fn kind(message: Message) -> u8 {
-    match message {
-        Message::Idle => 0,
-        Message::Sent(q) => request_kind(q),
-        Message::Answered(q, _) => request_kind(q),
-    }
-}
-
-fn request_kind(q: Request) -> u8 {
+fn put_request(state: u8, q: Request, code: u8) {
     match q {
-        Request::Reserve(_) => 1,
-        Request::Lock(_) => 2,
+        Request::Reserve(number) => put_numbers(state, 1, number, code),
+        Request::Lock(number) => put_numbers(state, 2, number, code),
     }
 }
 
-// The box of a message's request; 0 for none.
-fn box_asked(message: Message) -> u8 {
-    match message {
-        Message::Idle => 0,
-        Message::Sent(q) => request_box(q),
-        Message::Answered(q, _) => request_box(q),
-    }
-}
-
-fn request_box(q: Request) -> u8 {
-    match q {
-        Request::Reserve(number) => number,
-        Request::Lock(number) => number,
-    }
-}
-
-// A message's answer; 0 where there is none.
-fn answer(message: Message) -> u8 {
-    match message {
-        Message::Idle => 0,
-        Message::Sent(_) => 0,
-        Message::Answered(_, code) => code,
-    }
+fn put_numbers(state: u8, kind: u8, number: u8, code: u8) {
+    let numbers = [state, kind, number, code];
+    put_hex(&numbers);
 }

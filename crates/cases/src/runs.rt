@@ -1,12 +1,13 @@
 // Runs of the engine: a base file with a list of steps, and a single step on a line record made up from the line that they lead to.
 // The lent buffers are filled with bytes that are no code, so that what is left alone shows.
 ghost use Prim.Native.Nat.{_≤_};
-use crate::answers::add_coded;
+use crate::answers::put_coded;
 use crate::changes::altered;
-use crate::numbers::add_line;
-use crate::text::add;
-use crate::text::add_decimal;
-use rules::Line;
+use crate::numbers::put_line;
+use crate::parts::byte;
+use crate::parts::part;
+use crate::text::put;
+use crate::text::put_decimal;
 
 // Room for the answers to each list of steps of a corpus.
 const ROOM: usize = 4096;
@@ -15,18 +16,16 @@ const ROOM: usize = 4096;
 const UNUSED: u8 = 0x77;
 
 // A run with a buffer one byte longer than the answers and, where there are answers, one with a buffer one byte too short.
-pub(crate) fn add_runs(file: &[u8], steps: &[u8], out: &mut [u8], filled: usize) -> usize {
+pub(crate) fn put_runs(file: &[u8], steps: &[u8]) {
     let count = count(steps.len());
-    if count >= ROOM {
-        return add(out, filled, b'\n');
+    if count < ROOM {
+        put_run_in(count + 1, file, steps);
+        if count > 0 {
+            put(b' ');
+            put_run_in(count - 1, file, steps);
+        }
     }
-    let long = add_run_in(count + 1, file, steps, out, filled);
-    if count == 0 {
-        return add(out, long, b'\n');
-    }
-    let spaced = add(out, long, b' ');
-    let short = add_run_in(count - 1, file, steps, out, spaced);
-    add(out, short, b'\n')
+    put(b'\n');
 }
 
 // How many steps so many bytes are, a last one of one or two bytes among them.
@@ -39,46 +38,33 @@ fn count(bytes: usize) -> usize {
 }
 
 // A run with a buffer of this size.
-fn add_run_in(size: usize, file: &[u8], steps: &[u8], out: &mut [u8], filled: usize) -> usize
+fn put_run_in(size: usize, file: &[u8], steps: &[u8])
     requires { ⌜ size ≤ 4096 ⌝ }
 {
     let mut buffer = [UNUSED; ROOM];
-    add_run(file, steps, &mut buffer[0..size], out, filled)
+    put_run(file, steps, &mut buffer[0..size]);
 }
 
 // A run's code, the whole lent buffer after it, and the line.
-fn add_run(file: &[u8], steps: &[u8], buffer: &mut [u8], out: &mut [u8], filled: usize) -> usize {
+fn put_run(file: &[u8], steps: &[u8], buffer: &mut [u8]) {
     let outcome = engine::run(file, steps, buffer);
-    let coded = add_coded(out, filled, outcome.code, buffer);
-    let spaced = add(out, coded, b' ');
-    let line = outcome.line;
-    add_line(line, out, spaced)
+    put_coded(outcome.code, buffer);
+    put_line(outcome.line);
 }
 
-// The line after some steps, with changes.
-fn made_up(file: &[u8], steps: &[u8], changes: &[u8]) -> Line {
+// One step on the line that some steps lead to, with changes: its code, and the line after it. `made` has the number of the
+// changes, the changes of four bytes each, and the step.
+pub(crate) fn put_made_up(file: &[u8], steps: &[u8], made: &[u8]) {
     let mut buffer = [UNUSED; ROOM];
     let start = engine::run(file, steps, &mut buffer);
-    let reached = start.line;
-    altered(reached, changes)
+    let changes = byte(made, 0);
+    let line = altered(start.line, part(made, 1, 4 * (changes as usize)), changes);
+    put_step(line, part(made, 4 * (changes as usize) + 1, 3));
 }
 
-// One step on such a line: its code, and the line after it.
-pub(crate) fn add_made_up(
-    file: &[u8],
-    steps: &[u8],
-    changes: &[u8],
-    kind: u8,
-    train: u8,
-    at: u8,
-    out: &mut [u8],
-    filled: usize,
-) -> usize {
-    let line = made_up(file, steps, changes);
-    let outcome = engine::step(line, kind, train, at);
-    let coded = add_decimal(out, filled, outcome.code);
-    let spaced = add(out, coded, b' ');
-    let after = outcome.line;
-    let shown = add_line(after, out, spaced);
-    add(out, shown, b'\n')
+fn put_step(line: rules::Line, step: &[u8]) {
+    let outcome = engine::step(line, byte(step, 0), byte(step, 1), byte(step, 2));
+    put_decimal(outcome.code);
+    put_line(outcome.line);
+    put(b'\n');
 }

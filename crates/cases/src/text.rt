@@ -1,61 +1,24 @@
-// Text on its way to standard output, in a lent buffer of which a front part is filled. What adds to it gives how much is
-// filled then. A full buffer is written out and filled anew.
+// Text on standard output.
 use libc::STDOUT_FILENO;
 
-pub(crate) fn add(out: &mut [u8], filled: usize, byte: u8) -> usize {
-    if filled < out.len() {
-        out[filled] = byte;
-        return filled + 1;
-    }
-    io::write_all(STDOUT_FILENO, out);
-    if out.len() == 0 {
-        return 0;
-    }
-    out[0] = byte;
-    1
+pub(crate) fn put(character: u8) {
+    let text = [character];
+    io::write_all(STDOUT_FILENO, &text);
 }
 
-// Writes out the part that is filled.
-pub(crate) fn flush(out: &[u8], filled: usize) {
-    if filled <= out.len() {
-        io::write_all(STDOUT_FILENO, &out[0..filled]);
-    }
+pub(crate) fn put_decimal(number: u8) {
+    io::print_decimal(STDOUT_FILENO, number as u64);
 }
 
-pub(crate) fn add_decimal(out: &mut [u8], filled: usize, number: u8) -> usize {
-    let mut digits = [0u8; 20];
-    let length = io::decimal(number as u64, &mut digits);
-    add_all(out, filled, &digits[..length])
-}
-
-fn add_all(out: &mut [u8], filled: usize, bytes: &[u8]) -> usize {
-    let mut at = filled;
+// Two hexadecimal digits for each byte.
+pub(crate) fn put_hex(bytes: &[u8]) {
     let mut i = 0;
     while i < bytes.len() {
-        at = add(out, at, bytes[i]);
+        put_byte(bytes[i]);
         i += 1;
     }
-    at
 }
 
-// Two digits for each byte.
-pub(crate) fn add_hex(out: &mut [u8], filled: usize, bytes: &[u8]) -> usize {
-    let mut at = filled;
-    let mut i = 0;
-    while i < bytes.len() {
-        let byte = bytes[i];
-        let half = add(out, at, digit(byte / 16));
-        at = add(out, half, digit(byte % 16));
-        i += 1;
-    }
-    at
-}
-
-// The digit of a number below 16.
-fn digit(number: u8) -> u8 {
-    match number {
-        0..=9 => b'0' + number,
-        10..=15 => b'a' + (number - 10),
-        _ => b'?',
-    }
+fn put_byte(byte: u8) {
+    io::print_hex(STDOUT_FILENO, byte as u64, 2);
 }

@@ -9,6 +9,7 @@ use crate::text::put;
 use crate::text::put_decimal;
 use crate::text::put_hex;
 use rules::Table;
+use std::num::wrapping_add_u8;
 
 // Room for each file of a corpus. A file that is not refused for its length has at most 4,792 bytes.
 const LONGEST: usize = 4800;
@@ -16,12 +17,10 @@ const LONGEST: usize = 4800;
 // Decides a file. A refused file's line has the reader's code alone, an accepted one's also the writer's answers and the routes.
 pub(crate) fn decide(file: &[u8]) {
     let outcome = reading::read(file);
-    let code = outcome.code;
-    put_decimal(code);
-    if code == 0 {
-        let table = outcome.line.table;
-        put_written(table);
-        put_routes(file, table.k);
+    put_decimal(outcome.code);
+    if outcome.code == 0 {
+        put_written(outcome.line.table);
+        put_routes(file, outcome.line.table.k);
     }
     put(b'\n');
 }
@@ -33,6 +32,7 @@ pub(crate) fn decide_changed(file: &[u8], index: usize, value: u8) {
     decide(part(&changed, 0, file.len()));
 }
 
+// Puts that file at the front of `to`, and zeros behind it.
 fn copy_changed(from: &[u8], index: usize, value: u8, to: &mut [u8; 4800])
     requires { ⌜ 4800 ≡ length (now to) ⌝ }
     ensures { λ _. ⌜ 4800 ≡ length (now (to .exit)) ⌝ }
@@ -80,10 +80,11 @@ fn put_write(table: Table, buffer: &mut [u8]) {
 
 // The routes of the trains 0 to k + 1; of a file of 60 bytes or more only those of the trains 1 and k + 1.
 fn put_routes(file: &[u8], k: u8) {
-    let last = std::num::wrapping_add_u8(k, 1);
+    let last = wrapping_add_u8(k, 1);
+    let all = file.len() < 60;
     let mut train = 0;
     while train < last {
-        if train == 1 || file.len() < 60 {
+        if all | (train == 1) {
             put_route(file, train);
         }
         train += 1;

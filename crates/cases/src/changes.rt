@@ -24,29 +24,22 @@ pub(crate) fn altered(start: Line, changes: &[u8], count: u8) -> Line {
 
 // The line after one change: of its boxes, trains and routes as they stand, or of its table.
 fn changed(mut line: Line, change: &[u8]) -> Line {
-    let part = byte(change, 0);
+    let kind = byte(change, 0);
     let index = byte(change, 1) as usize;
     let field = byte(change, 2);
     let value = byte(change, 3);
-    match part {
-        b'R' => line = change_route(line, index, field, value),
+    match kind {
         b'b' => line = change_box(line, index, field, value),
-        b't' => line = change_train(line, index, field, value),
-        b'm' => line = change_message(line, index, field, value),
-        _ => line.table = table_after(line.table, part, index, field, value),
+        b't' | b'm' => line = change_train(line, kind, index, field, value),
+        b'R' => line = change_route(line, index, field, value),
+        b'h' => line.table = change_head(line.table, field, value),
+        b's' => line.table = change_segment(line.table, index, field, value),
+        b'p' => line.table = change_plan(line.table, index, field, value),
+        b'd' => line.table = change_train_plan(line.table, index, field, value),
+        b'r' => line.table = change_table_route(line.table, index, field, value),
+        _ => {}
     }
     line
-}
-
-fn table_after(table: Table, part: u8, index: usize, field: u8, value: u8) -> Table {
-    match part {
-        b'h' => change_head(table, field, value),
-        b's' => change_segment(table, index, field, value),
-        b'p' => change_plan(table, index, field, value),
-        b'd' => change_train_plan(table, index, field, value),
-        b'r' => change_table_route(table, index, field, value),
-        _ => table,
-    }
 }
 
 // The high and the low byte of the version, n, m and k.
@@ -117,7 +110,7 @@ fn change_table_route(mut table: Table, index: usize, place: u8, value: u8) -> T
     table
 }
 
-// The segment at a place, from 0, of a train's route in force.
+// The same of a route in force.
 fn change_route(mut line: Line, index: usize, place: u8, value: u8) -> Line {
     if index < 16 {
         if place < 64 {
@@ -145,46 +138,41 @@ fn change_box(mut line: Line, index: usize, field: u8, value: u8) -> Line {
     line
 }
 
-// A train: direction, length, place, covered, and whether near end, far end and lock are recorded (0 not).
-fn change_train(mut line: Line, index: usize, field: u8, value: u8) -> Line {
+// A train or its message.
+fn change_train(mut line: Line, kind: u8, index: usize, field: u8, value: u8) -> Line {
     if index < 16 {
-        let mut r = line.trains[index];
-        match field {
-            0 => r.direction = value,
-            1 => r.length = value,
-            2 => r.place = value,
-            3 => r.covered = value,
-            4 => r.near = value != 0,
-            5 => r.far = value != 0,
-            6 => r.lock = value != 0,
-            _ => {}
-        }
-        line.trains[index] = r;
+        line.trains[index] = train_after(line.trains[index], kind, field, value);
     }
     line
 }
 
-// A train's message.
-fn change_message(mut line: Line, index: usize, field: u8, value: u8) -> Line {
-    if index < 16 {
-        line.trains[index] = with_message(line.trains[index], field, value);
+// A train: direction, length, place, covered, and whether near end, far end and lock are recorded (0 not); or its message.
+fn train_after(mut r: Train, kind: u8, field: u8, value: u8) -> Train {
+    if kind == b'm' {
+        let old = r.message;
+        let message = message_after(old, field, value);
+        return Train {
+            direction: r.direction,
+            length: r.length,
+            place: r.place,
+            covered: r.covered,
+            near: r.near,
+            far: r.far,
+            lock: r.lock,
+            message,
+        };
     }
-    line
-}
-
-fn with_message(r: Train, field: u8, value: u8) -> Train {
-    let old = r.message;
-    let message = message_after(old, field, value);
-    Train {
-        direction: r.direction,
-        length: r.length,
-        place: r.place,
-        covered: r.covered,
-        near: r.near,
-        far: r.far,
-        lock: r.lock,
-        message,
+    match field {
+        0 => r.direction = value,
+        1 => r.length = value,
+        2 => r.place = value,
+        3 => r.covered = value,
+        4 => r.near = value != 0,
+        5 => r.far = value != 0,
+        6 => r.lock = value != 0,
+        _ => {}
     }
+    r
 }
 
 // None; a reservation or a lock of box `value`, sent; the same, answered yes; or the answer's code.
@@ -195,14 +183,10 @@ fn message_after(old: Message, field: u8, value: u8) -> Message {
         2 => Message::Sent(Request::Lock(value)),
         3 => Message::Answered(Request::Reserve(value), 0),
         4 => Message::Answered(Request::Lock(value), 0),
-        5 => with_code(old, value),
-        _ => old,
-    }
-}
-
-fn with_code(old: Message, code: u8) -> Message {
-    match old {
-        Message::Answered(q, _) => Message::Answered(q, code),
+        5 => match old {
+            Message::Answered(q, _) => Message::Answered(q, value),
+            _ => old,
+        },
         _ => old,
     }
 }

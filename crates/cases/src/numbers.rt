@@ -1,6 +1,5 @@
 // A line's trains and boxes as text: 11 bytes a train and 6 a box, in hexadecimal, with a space before them and a colon between
 // trains and boxes.
-ghost use Prim.Native.Nat.{_≤_};
 use crate::text::put;
 use crate::text::put_hex;
 use rules::Line;
@@ -13,29 +12,27 @@ use rules::Train;
 pub(crate) fn put_line(line: Line) {
     put(b' ');
     let trains = line.trains;
-    put_trains(trains, line.table.k);
+    put_trains(trains, line.table.k as usize);
     put(b':');
     let boxes = line.boxes;
-    put_boxes(boxes, line.table.m);
+    put_boxes(boxes, line.table.m as usize);
 }
 
-fn put_trains(trains: [Train; 16], k: u8) {
+fn put_trains(trains: [Train; 16], k: usize) {
     let mut i = 0;
     while i < k {
         if i < 16 {
-            let train = trains[i as usize];
-            put_train(train);
+            put_train(trains[i]);
         }
         i += 1;
     }
 }
 
-fn put_boxes(boxes: [SwitchBox; 96], m: u8) {
+fn put_boxes(boxes: [SwitchBox; 96], m: usize) {
     let mut i = 0;
     while i < m {
         if i < 96 {
-            let switchbox = boxes[i as usize];
-            put_box(switchbox);
+            put_box(boxes[i]);
         }
         i += 1;
     }
@@ -48,9 +45,9 @@ fn put_train(train: Train) {
         train.length,
         train.place,
         train.covered,
-        bit(train.near),
-        bit(train.far),
-        bit(train.lock),
+        train.near as u8,
+        train.far as u8,
+        train.lock as u8,
     ];
     put_hex(&numbers);
     let message = train.message;
@@ -60,7 +57,7 @@ fn put_train(train: Train) {
 // Sensor, position, lock, and the holders at stem, left and right.
 fn put_box(switchbox: SwitchBox) {
     let numbers = [
-        bit(switchbox.sensor),
+        switchbox.sensor as u8,
         switchbox.position,
         switchbox.lock,
         switchbox.stem,
@@ -68,10 +65,6 @@ fn put_box(switchbox: SwitchBox) {
         switchbox.right,
     ];
     put_hex(&numbers);
-}
-
-fn bit(set: bool) -> u8 {
-    if set { 1 } else { 0 }
 }
 
 // A message's state (0 none, 1 sent, 2 answered), and its request's kind and box and its answer, 0 where there is none.

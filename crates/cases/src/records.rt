@@ -17,7 +17,7 @@ pub struct Place {
     pub length: usize,
 }
 
-// Decides the records one after the other. A record is at least one byte long, so there are no more turns than bytes.
+// Decides the records one after the other. There are no more of them than bytes, and nothing is decided past the end.
 pub(crate) fn decide_all(corpus: &[u8]) {
     let mut place = Place {
         next: 0,
@@ -27,17 +27,19 @@ pub(crate) fn decide_all(corpus: &[u8]) {
         length: 0,
     };
     let mut turns = corpus.len();
-    while turns > 0 && place.next < corpus.len() {
+    while turns > 0 {
         place = decide_next(corpus, place);
         turns -= 1;
     }
 }
 
-// Decides the next record: its kind, a number of two bytes, and what belongs to them.
+// Decides the next record: its kind, a number of two bytes, the high byte first, and what belongs to them.
 fn decide_next(corpus: &[u8], place: Place) -> Place {
     let next = place.next;
     let kind = byte(corpus, next);
-    let number = number_after(corpus, next);
+    let high = byte(corpus, wrapping_add_usize(next, 1));
+    let low = byte(corpus, wrapping_add_usize(next, 2));
+    let number = (high as usize) * 256 + (low as usize);
     let from = wrapping_add_usize(next, 3);
     let size = size_of(kind, number, byte(corpus, from), corpus.len());
     decide_record(
@@ -48,13 +50,6 @@ fn decide_next(corpus: &[u8], place: Place) -> Place {
         part(corpus, place.steps, place.length),
     );
     place_after(place, kind, number, from, wrapping_add_usize(from, size))
-}
-
-// The two bytes after a place as a number, the high byte first.
-fn number_after(corpus: &[u8], at: usize) -> usize {
-    let high = byte(corpus, wrapping_add_usize(at, 1));
-    let low = byte(corpus, wrapping_add_usize(at, 2));
-    (high as usize) * 256 + (low as usize)
 }
 
 // How many bytes belong to a record, by its kind, its number and the byte that comes first; what is no record takes all that is left.

@@ -8,6 +8,7 @@ use crate::parts::byte;
 use crate::parts::part;
 use crate::text::put;
 use crate::text::put_decimal;
+use rules::Line;
 
 // Room for the answers to each list of steps of a corpus.
 const ROOM: usize = 4096;
@@ -15,9 +16,11 @@ const ROOM: usize = 4096;
 // A byte that is no code.
 const UNUSED: u8 = 0x77;
 
-// A run with a buffer one byte longer than the answers and, where there are answers, one with a buffer one byte too short.
+// A run with a buffer one byte longer than the answers and, where there are answers, one with a buffer one byte too short. There is
+// an answer for every three bytes, and one for a rest of one or two.
 pub(crate) fn put_runs(file: &[u8], steps: &[u8]) {
-    let count = count(steps.len());
+    let bytes = steps.len();
+    let count = bytes / 3 + (bytes % 3 + 1) / 2;
     if count < ROOM {
         put_run_in(count + 1, file, steps);
         if count > 0 {
@@ -26,15 +29,6 @@ pub(crate) fn put_runs(file: &[u8], steps: &[u8]) {
         }
     }
     put(b'\n');
-}
-
-// How many steps so many bytes are, a last one of one or two bytes among them.
-fn count(bytes: usize) -> usize {
-    if bytes % 3 == 0 {
-        bytes / 3
-    } else {
-        bytes / 3 + 1
-    }
 }
 
 // A run with a buffer of this size.
@@ -52,17 +46,19 @@ fn put_run(file: &[u8], steps: &[u8], buffer: &mut [u8]) {
     put_line(outcome.line);
 }
 
-// One step on the line that some steps lead to, with changes: its code, and the line after it. `made` has the number of the
-// changes, the changes of four bytes each, and the step.
+// One step on the line that some steps lead to, with changes. `made` has the number of the changes, the changes of four bytes each,
+// and the step.
 pub(crate) fn put_made_up(file: &[u8], steps: &[u8], made: &[u8]) {
     let mut buffer = [UNUSED; ROOM];
     let start = engine::run(file, steps, &mut buffer);
-    let changes = byte(made, 0);
-    let line = altered(start.line, part(made, 1, 4 * (changes as usize)), changes);
-    put_step(line, part(made, 4 * (changes as usize) + 1, 3));
+    let count = byte(made, 0);
+    let size = 4 * (count as usize);
+    let line = altered(start.line, part(made, 1, size), count);
+    put_step(line, part(made, size + 1, 3));
 }
 
-fn put_step(line: rules::Line, step: &[u8]) {
+// A step's code, and the line after it.
+fn put_step(line: Line, step: &[u8]) {
     let outcome = engine::step(line, byte(step, 0), byte(step, 1), byte(step, 2));
     put_decimal(outcome.code);
     put_line(outcome.line);

@@ -5,10 +5,10 @@ use Rattle.cases.proofs.answers.put_routes.Statement.{statement}
 use Rattle.cases.proofs.answers.put_routes.Tie as tie
 
 abbrev Inv-loop : tie.InvT-loop
-Inv-loop file k last train₀ train = Unit {0}
+Inv-loop file k last all train₀ train = Unit {0}
 
 abbrev μ-loop : tie.MeasureT-loop
-μ-loop file k last train₀ train = last - train
+μ-loop file k last all train₀ train = last - train
 
 pub put-routes-spec : {M : Type 1} → statement M
 put-routes-spec =

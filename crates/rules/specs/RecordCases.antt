@@ -14,7 +14,7 @@ use Rattle.rules.specs.File.{decode}
 use Rattle.rules.specs.Line.{startLine, emptyLine, noTrain, read, putTrain, putBox}
 use Rattle.rules.specs.Record.{checkedStep}
 use Rattle.rules.specs.Safety.{reached}
-use Rattle.rules.specs.Cases.{Question, checked, checkedTrain, checkedBox, Case, _gives_, stepOf, tableS, oneStart, paperCases}
+use Rattle.rules.specs.Cases.{Question, writtenTo, checked, checkedTrain, checkedBox, checkedLine, lineNumbers, Case, _gives_, stepOf, tableS, oneStart, ring, paperCases}
 use Rattle.rules.specs.FileCases.{linked, fileCases}
 use Rattle.rules.specs.StepCases.{crossing, stepCases}
 use Rattle.rules.specs.RunCases.{runCases, lentCases}
@@ -41,6 +41,19 @@ abbrev pub withRoutes : List ℕ → Line
 withRoutes routes =
     record { table = startS .table; boxes = startS .boxes; trains = startS .trains; routes = routes }
 
+-- Table S's start line with the table of other bytes.
+abbrev pub withTable : List ℕ → Line
+withTable bytes =
+    record { table = decode bytes; boxes = startS .boxes; trains = startS .trains; routes = startS .routes }
+
+-- Train 1 on a route in force of one segment.
+abbrev pub onSegment : ℕ → Line
+onSegment s = putTrain (withRoutes (set (startS .routes) 0 s)) 1 (made 0 1 1 1 false false false Idle)
+
+-- A train's request to lock box 2, the link of `linked`, on the way.
+abbrev pub lockingLink : Line
+lockingLink = putTrain (startLine (decode linked)) 1 (made 0 2 1 1 false false false (Sent (Lock 2)))
+
 -- A box record with position 1, which only a point can have.
 abbrev pub onlyPosition : SwitchBox
 onlyPosition = record { sensor = false; position = 1; lock = 0; stem = 0; left = 0; right = 0 }
@@ -49,16 +62,41 @@ onlyPosition = record { sensor = false; position = 1; lock = 0; stem = 0; left =
 abbrev pub heardOn : Line → Question
 heardOn l = checked l (stepOf 4 1 0)
 
+-- The code of a line's table part, which is the writer's for a buffer of no bytes.
+abbrev pub tablePart : Line → Question
+tablePart l = writtenTo (l .table) []
+
+-- The step (1,1,2), which is accepted on table S's start line, is answered 27 and leaves all trains and boxes as they were.
+abbrev pub untouched : Line → Case
+untouched l = checkedLine l (stepOf 1 1 2) gives (27 ∷ lineNumbers l)
+
 unfoldable pub recordCases : List Case
 recordCases =
     heardOn startS gives (21 ∷ [])
     ∷ heardOn (reached (decode tableS) crossing) gives (21 ∷ [])
-    -- The table part: the empty record, codes 6, 12, 3 and 4.
+    -- The table part with its code: the empty record, codes 6, 12, 3 and 4.
+    ∷ tablePart emptyLine gives (3 ∷ [])
     ∷ heardOn emptyLine gives (27 ∷ [])
+    ∷ tablePart (startLine (decode (set tableS 9 1))) gives (6 ∷ [])
     ∷ heardOn (startLine (decode (set tableS 9 1))) gives (27 ∷ [])
+    ∷ tablePart (startLine (decode oneStart)) gives (12 ∷ [])
     ∷ heardOn (startLine (decode oneStart)) gives (27 ∷ [])
+    ∷ tablePart (startLine (decode (set tableS 4 2))) gives (3 ∷ [])
     ∷ heardOn (startLine (decode (set tableS 4 2))) gives (27 ∷ [])
+    ∷ tablePart (startLine (decode (set tableS 7 17))) gives (4 ∷ [])
     ∷ heardOn (startLine (decode (set tableS 7 17))) gives (27 ∷ [])
+    -- The same where nothing else is at fault: 7, 8, 10 and 11 beside table S's boxes and trains, and 9 with no train.
+    ∷ checked startS (stepOf 1 1 2) gives (0 ∷ [])
+    ∷ tablePart (withTable (set tableS 18 2)) gives (7 ∷ [])
+    ∷ untouched (withTable (set tableS 18 2))
+    ∷ tablePart (withTable (set tableS 17 2)) gives (8 ∷ [])
+    ∷ untouched (withTable (set tableS 17 2))
+    ∷ tablePart (startLine (decode ring)) gives (9 ∷ [])
+    ∷ untouched (startLine (decode ring))
+    ∷ tablePart (withTable (set tableS 36 2)) gives (10 ∷ [])
+    ∷ untouched (withTable (set tableS 36 2))
+    ∷ tablePart (withTable (set tableS 39 4)) gives (11 ∷ [])
+    ∷ untouched (withTable (set tableS 39 4))
     -- What the reader leaves: a line, or none.
     ∷ heardOn (read tableS .line) gives (21 ∷ [])
     ∷ heardOn (read (tableS ++ (0 ∷ [])) .line) gives (27 ∷ [])
@@ -70,6 +108,11 @@ recordCases =
     ∷ heardOn (withTrain 0 0 1 1 Idle) gives (27 ∷ [])
     ∷ heardOn (withTrain 0 65 1 1 Idle) gives (27 ∷ [])
     ∷ heardOn (withTrain 2 1 1 1 Idle) gives (27 ∷ [])
+    -- A route's only segment: one that is there, 0, and one above n. What stands beyond a route's length is not looked at.
+    ∷ heardOn (onSegment 4) gives (21 ∷ [])
+    ∷ untouched (onSegment 0)
+    ∷ untouched (onSegment 5)
+    ∷ heardOn (withRoutes (set (startS .routes) 3 5)) gives (21 ∷ [])
     -- Every train up to k is looked at, and none above.
     ∷ heardOn (putTrain startS 2 noTrain) gives (27 ∷ [])
     ∷ heardOn (putTrain startS 3 noTrain) gives (21 ∷ [])
@@ -90,11 +133,14 @@ recordCases =
     ∷ heardOn (withBox 2 2 0 0 3 0) gives (27 ∷ [])
     ∷ heardOn (withBox 2 2 0 0 0 3) gives (27 ∷ [])
     ∷ heardOn (withBox 4 1 0 0 0 0) gives (27 ∷ [])
+    ∷ untouched (putBox (startLine (decode linked)) 2 onlyPosition)
     -- Every box up to m is looked at, and none above.
     ∷ heardOn (putBox startS 5 onlyPosition) gives (21 ∷ [])
     ∷ heardOn (putBox (startLine (decode linked)) 3 onlyPosition) gives (27 ∷ [])
-    -- At a place that the box lacks: a holder above k, and one up to k.
+    -- At a border, which has no lock, left and right: a holder above k, and one up to k.
+    ∷ untouched (withBox 1 0 3 0 0 0)
     ∷ heardOn (withBox 1 0 0 0 3 0) gives (27 ∷ [])
+    ∷ untouched (withBox 1 0 0 0 0 3)
     ∷ heardOn (withBox 1 0 0 0 2 0) gives (21 ∷ [])
     -- Messages that 16 or 17 would stop.
     ∷ heardOn (withTrain 0 3 1 1 (Sent (Reserve 3))) gives (21 ∷ [])
@@ -103,6 +149,10 @@ recordCases =
     ∷ heardOn (withTrain 0 3 1 1 (Sent (Lock 3))) gives (27 ∷ [])
     ∷ heardOn (withTrain 0 3 1 1 (Answered (Lock 3) 0)) gives (27 ∷ [])
     ∷ heardOn (withTrain 0 3 3 1 (Answered (Reserve 3) 0)) gives (27 ∷ [])
+    -- 16 alone: no next and a point ahead, and no next with box 0; 17 alone: a box ahead that is no point.
+    ∷ untouched (withTrain 0 1 1 1 (Sent (Lock 2)))
+    ∷ untouched (withTrain 0 3 3 1 (Sent (Reserve 0)))
+    ∷ untouched lockingLink
     -- Answers: 0 and 22 for a reservation, 0 and 23 to 25 for a lock.
     ∷ heardOn (withTrain 0 3 1 1 (Answered (Reserve 2) 22)) gives (22 ∷ [])
     ∷ heardOn (withTrain 0 3 1 1 (Answered (Reserve 2) 21)) gives (27 ∷ [])

@@ -94,9 +94,10 @@ fn put_routes(file: &[u8], k: u8) {
 
 // A train's code and route.
 fn put_route(file: &[u8], train: u8) {
-    let code = tablefile::route_code(file, train);
+    let mut code: u8 = 0;
+    let route = tablefile::route(file, train, &mut code);
     put(b' ');
-    put_coded(code, tablefile::route(file, train));
+    put_coded(code, route);
 }
 
 // A code, a colon and bytes.

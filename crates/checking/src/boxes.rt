@@ -7,7 +7,7 @@ ghost use lib.Dec.{ltb};
 ghost use Rattle.rules.specs.Record.{switchBoxFault, switchBoxesFault};
 
 // Code 27 at a box with this plan, on a line with k trains.
-fn box_faulty(k: u8, p: BoxPlan, x: SwitchBox) -> bool
+fn box_record_faulty(k: u8, p: BoxPlan, x: SwitchBox) -> bool
     ensures { λ r. ⌜ r ≡ switchBoxFault k p x ⌝ }
 {
     if !network::position_fits(p, x.position) {
@@ -39,7 +39,7 @@ pub fn some_box_record_faulty(k: u8, m: u8, plans: [BoxPlan; 96], boxes: [Switch
     while i + 1 <= m {
         let p = plans[i];
         let x = boxes[i];
-        if box_faulty(k, p, x) {
+        if box_record_faulty(k, p, x) {
             return true;
         }
         i += 1;

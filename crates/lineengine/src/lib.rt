@@ -48,9 +48,9 @@ pub extern "C" fn lineengine_print(
     ensures { λ r. ⌜ now (answers .exit) ≡ printedAnswers (now (table .entry)) (now (input .entry)) (now (answers .entry)) (now (text .entry)) ⌝ }
 {
     let printed = printout::print(table, input, answers, text);
-    let code = printed.code;
-    if code != 0 {
-        return code;
+    let refused = printed.code;
+    if refused != 0 {
+        return refused;
     }
     *size = printed.length;
     0

@@ -41,7 +41,7 @@ fn side_faulty(number: u8, stem: u8, s: u8, a: &[u8; 256], b: &[u8; 256]) -> boo
 }
 
 // Code 8 at a box.
-fn box_faulty(number: u8, p: BoxPlan, a: &[u8; 256], b: &[u8; 256]) -> bool
+fn listing_faulty(number: u8, p: BoxPlan, a: &[u8; 256], b: &[u8; 256]) -> bool
     ensures { λ r. ⌜ r ≡ boxFault (trackIn (now (a .entry)) (now (b .entry))) number p ⌝ }
 {
     if listed_faulty(number, p.stem, a, b) {
@@ -69,7 +69,7 @@ pub(crate) fn some_listing_faulty(m: u8, plans: [BoxPlan; 96], a: &[u8; 256], b:
         let i = number as usize;
         number += 1;
         let p = plans[i];
-        if box_faulty(number, p, a, b) {
+        if listing_faulty(number, p, a, b) {
             return true;
         }
     }

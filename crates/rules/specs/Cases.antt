@@ -10,7 +10,7 @@ use Rattle.rules.specs.declared.Train.{Train}
 use Rattle.rules.specs.declared.Line.{Line}
 use Rattle.rules.specs.Rows.{joinOf}
 use Rattle.rules.specs.Track.{planAt, joins}
-use Rattle.rules.specs.File.{fileCode, decode, encode, routeCode, routePart, writeCode, written}
+use Rattle.rules.specs.File.{fileCode, decode, encode, routeCode, routePart, routeFrom, writeCode, written}
 use Rattle.rules.specs.Line.{startLine, around, boxAt, trainAt, messageState, messageKind, messageBox, messageCode}
 use Rattle.rules.specs.Steps.{Step}
 use Rattle.rules.specs.Record.{checkedStep}
@@ -142,7 +142,7 @@ found (atomicAnswersTo bytes steps) =
     let es = events atomicStep l steps in
     bit (stopped es) ∷ answersOf es ++ lineNumbers (lineAfter atomicStep l steps)
 found (atomicBoxAfter bytes steps b) = boxNumbers (boxAt (atomic (decode bytes) steps) b)
-found (routeOf bytes i) = routeCode bytes i ∷ routePart bytes i
+found (routeOf bytes i) = routeCode bytes i ∷ routeFrom bytes i ∷ routePart bytes i
 
 -- A question and the answer that 01 gives or, for runs and the printout in lent memory, its reading in docs/DECISIONS.md.
 pub record Case : Type 0 where

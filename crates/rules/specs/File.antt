@@ -124,7 +124,7 @@ earlyRows bytes =
 unfoldable pub fileCode : List ℕ → ℕ
 fileCode bytes = first (earlyRows bytes ++ conditionRows (decode bytes))
 
--- The route of train i as a part of the file: the file's code, then 14 for a train 0 or above k; with both the part is empty, at
+-- The route of train i as a part of the file: the file's code, then 14 for a train 0 or above k; with either the part is empty, at
 -- the file's beginning.
 unfoldable pub routeCode : List ℕ → ℕ → ℕ
 routeCode bytes i = first (fileCode bytes if not (eqb (fileCode bytes) 0) ∷ 14 if outside (trainCount bytes) i ∷ [])

@@ -160,12 +160,12 @@ writerCases =
     ∷ rewritten separate gives separate
     ∷ codeOf fullLine gives (0 ∷ [])
     ∷ rewritten fullLine gives fullLine
-    -- A route as a part of the file; the reader's code, then 14.
-    ∷ routeOf tableS 1 gives (0 ∷ 1 ∷ 2 ∷ 4 ∷ [])
-    ∷ routeOf tableS 2 gives (0 ∷ 4 ∷ 3 ∷ 1 ∷ [])
-    ∷ routeOf tableS 0 gives (14 ∷ [])
-    ∷ routeOf tableS 3 gives (14 ∷ [])
-    ∷ routeOf (set tableS 9 1) 0 gives (6 ∷ [])
+    -- A route as a part of the file: the reader's code, then 14; where the part begins; its bytes.
+    ∷ routeOf tableS 1 gives (0 ∷ 38 ∷ 1 ∷ 2 ∷ 4 ∷ [])
+    ∷ routeOf tableS 2 gives (0 ∷ 43 ∷ 4 ∷ 3 ∷ 1 ∷ [])
+    ∷ routeOf tableS 0 gives (14 ∷ 0 ∷ [])
+    ∷ routeOf tableS 3 gives (14 ∷ 0 ∷ [])
+    ∷ routeOf (set tableS 9 1) 0 gives (6 ∷ 0 ∷ [])
     -- A refused file is printed as its code alone, whatever the input.
     ∷ printed [] (1 ∷ 1 ∷ 2 ∷ []) gives bytesOf "file 1\n"
     ∷ printed (set tableS 41 0) [] gives bytesOf "file 11\n"

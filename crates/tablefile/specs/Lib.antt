@@ -1,4 +1,5 @@
--- What the functions of this crate compute; the public ones but `read_table` and those of `head` are stated by the definitions of `rules`.
+-- What the functions of this crate compute. Of the public ones `read_table`, those of `head` and the memory of `route` are stated here,
+-- the rest by the definitions of `rules`.
 pub mod Whole
 pub mod Places
 pub mod Part

@@ -5,11 +5,11 @@ use mathlib.Core.Path.{_≡_}
 use lib.ListN.{drop}
 use denote.Ref.{RefT}
 
--- The place so many bytes after another, in the same block of memory.
-abbrev pub placeAfter : ℕ × ℕ → ℕ → ℕ × ℕ
-placeAfter p count = (p .0, p .1 + count)
+-- The pointer so many bytes after another, in the same block of memory.
+abbrev pub pointerAfter : ℕ × ℕ → ℕ → ℕ × ℕ
+pointerAfter p count = (p .0, p .1 + count)
 
 -- What is left of lent bytes past a place.
 pub record RestOf (bytes : RefT (List ℕ)) (at : ℕ) (rest : RefT (List ℕ)) : Type 0 where
-  pub place : rest .ptr ≡ placeAfter (bytes .ptr) at
+  pub pointer : rest .ptr ≡ pointerAfter (bytes .ptr) at
   pub left : rest .now ≡ drop at (bytes .now)

@@ -11,7 +11,7 @@ ghost use mathlib.Core.Path.{_≡_};
 ghost use Rattle.rules.specs.File.{routeCode, routePart, routeFrom};
 ghost use Rattle.rules.specs.Line.{emptyTable};
 ghost use Rattle.tablefile.specs.Whole.{fileTable};
-ghost use Rattle.tablefile.specs.Part.{placeAfter};
+ghost use Rattle.tablefile.specs.Part.{pointerAfter};
 
 // A file's code, and its table where codes 1 to 5 let the file through.
 pub struct FileTable {
@@ -79,7 +79,7 @@ fn route_code(bytes: &[u8], train: u8) -> u8
 // The route of a train as a part of the lent file, and its code. With a code the part is empty.
 pub fn route<'a>(bytes: &'a [u8], train: u8, code: &mut u8) -> &'a [u8]
     ensures { λ r. ⌜ now (code .exit) ≡ routeCode (now (bytes .entry)) train ⌝ }
-    ensures { λ r. ⌜ r .ptr ≡ placeAfter (bytes .entry .ptr) (routeFrom (now (bytes .entry)) train) ⌝ }
+    ensures { λ r. ⌜ r .ptr ≡ pointerAfter (bytes .entry .ptr) (routeFrom (now (bytes .entry)) train) ⌝ }
     ensures { λ r. ⌜ now r ≡ routePart (now (bytes .entry)) train ⌝ }
 {
     let refused = route_code(bytes, train);

@@ -1,5 +1,5 @@
 //! Prints cases as readable text: name, table bytes in hex, steps, printout.
-//! With a directory as fourth argument the cases are also written there as
+//! With a directory as fourth argument the cases are written there instead, as
 //! `N.net`, `N.steps` and `N.expected`, to run another program on them.
 //! Arguments: seed, number of cases, steps per case, directory.
 

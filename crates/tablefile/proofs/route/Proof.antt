@@ -47,7 +47,7 @@ returns-2 c =
     let z = taken (f .before .before .before) in
     let rest = f .from-train .ensures in (
       f .before .before .before .before .route-code .ensures,
-      (placed-further _ _ _ _ 2 (rest .place) (from-some _ _ z), part-some _ _ z _ (rest .left) (2 + size - 2) (omega arith)),
+      (placed-further _ _ _ _ 2 (rest .pointer) (from-some _ _ z), part-some _ _ z _ (rest .left) (2 + size - 2) (omega arith)),
     )
 
 pub route-spec : {M : Type 1} → statement M

@@ -25,11 +25,11 @@ returns c = is-true _ (or-left _ _ (lt-ltb _ _ (c .if1 .taken)))
 returns-2 : tie.Need-returns-2 Inv-loop μ-loop
 unfolding switchBoxesFault
 returns-2 c =
-    or-last _ _ _ (le-ltb _ _ (c .before .before .before .before .before .before .if1 .left)) (none-found _ _ (c .before .before .before .before .before .loop .i) (omega arith) (box-answer _ _ _ _ _ _ (c .before .box-faulty .ensures) (c .if2 .taken)))
+    or-last _ _ _ (le-ltb _ _ (c .before .before .before .before .before .before .if1 .left)) (none-found _ _ (c .before .before .before .before .before .loop .i) (omega arith) (box-answer _ _ _ _ _ _ (c .before .box-record-faulty .ensures) (c .if2 .taken)))
 
 loop-again : tie.Need-loop-again Inv-loop μ-loop
 loop-again c =
-    none-turn _ _ (c .before .before .before .before .before .loop .i) (c .before .before .before .before .before .loop .inv) (omega arith) (box-answer _ _ _ _ _ _ (c .before .box-faulty .ensures) (c .if2 .left))
+    none-turn _ _ (c .before .before .before .before .before .loop .i) (c .before .before .before .before .before .loop .inv) (omega arith) (box-answer _ _ _ _ _ _ (c .before .box-record-faulty .ensures) (c .if2 .left))
 
 returns-3 : tie.Need-returns-3 Inv-loop μ-loop
 unfolding switchBoxesFault

@@ -13,7 +13,7 @@ returns : tie.Need-returns
 returns c =
     let a = c .before .args in
     record {
-      place = placed (a .bytes .ptr) (a .at) (a .at) refl;
+      pointer = placed (a .bytes .ptr) (a .at) (a .at) refl;
       left = take-all (length (a .bytes .now) - a .at) (drop (a .at) (a .bytes .now)) (simp length-drop (omega arith));
     }
 

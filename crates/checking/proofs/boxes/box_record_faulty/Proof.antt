@@ -4,8 +4,8 @@ use Rattle.rules.proofs.Tests.{tests}
 use borrow.Author.Needs.{needs}
 use Rattle.rules.specs.Record.{switchBoxFault}
 use Rattle.checking.proofs.Laws.{last-holder}
-use Rattle.checking.proofs.boxes.box_faulty.Statement.{statement}
-use Rattle.checking.proofs.boxes.box_faulty.Tie as tie
+use Rattle.checking.proofs.boxes.box_record_faulty.Statement.{statement}
+use Rattle.checking.proofs.boxes.box_record_faulty.Tie as tie
 
 returns : tie.Need-returns
 unfolding switchBoxFault
@@ -31,6 +31,6 @@ returns-5 c =
     let fits = lock .before .before in
     last-holder _ _ _ _ _ (fits .before .position-fits .ensures) (fits .if1 .left) (lock .if2 .left) (stem .if3 .left) (left .if4 .left) refl
 
-pub box-faulty-spec : {M : Type 1} → statement M
-box-faulty-spec =
+pub box-record-faulty-spec : {M : Type 1} → statement M
+box-record-faulty-spec =
     tie.close (tie.spec (λ c κs. search needs) returns returns-2 returns-3 returns-4 returns-5)

@@ -2,8 +2,8 @@
 use Rattle.rules.proofs.Tests.{tests}
 use Rattle.rules.specs.Network.{boxFault}
 use borrow.Author.Needs.{needs}
-use Rattle.network.proofs.listing.box_faulty.Statement.{statement}
-use Rattle.network.proofs.listing.box_faulty.Tie as tie
+use Rattle.network.proofs.listing.listing_faulty.Statement.{statement}
+use Rattle.network.proofs.listing.listing_faulty.Tie as tie
 
 listed-faulty-requires : tie.Need-listed-faulty-requires
 listed-faulty-requires c κs = search needs
@@ -40,8 +40,8 @@ returns-5 : tie.Need-returns-5
 unfolding boxFault
 returns-5 c = search tests depth 12
 
-pub box-faulty-spec : {M : Type 1} → statement M
-box-faulty-spec =
+pub listing-faulty-spec : {M : Type 1} → statement M
+listing-faulty-spec =
     tie.close
     (tie.spec
     listed-faulty-requires

@@ -4,6 +4,8 @@
 //! steps have reached. `tools/compare-definitions` has them checked.
 //! Arguments: seed, number of cases, steps per case.
 
+use std::fmt::Display;
+
 use reference::argument::argument;
 use reference::atomic::{atomic_order, fold_places, WholeLine};
 use reference::generate::damage::damaged_file;
@@ -69,13 +71,13 @@ made-line bytes routes trains boxes =
 ";
 
 /// A theorem: what is found for the question is this list.
-fn theorem(name: &str, question: &str, expected: &[u8]) {
+fn theorem<N: Display>(name: &str, question: &str, expected: &[N]) {
     println!("{name} : found ({question}) ≡ {}", list(expected));
     println!("unfolding definitions made-box made-train made-line");
     println!("{name} = refl\n");
 }
 
-fn list(numbers: &[u8]) -> String {
+fn list<N: Display>(numbers: &[N]) -> String {
     let mut text = String::from("(");
     for number in numbers {
         text.push_str(&format!("{number} ∷ "));
@@ -136,7 +138,7 @@ fn run_case(rng: &mut Prng, case: u64, table: &Table, steps: usize) {
 }
 
 /// The writer's code and buffer, for the table and for one with a number altered; a route as a
-/// part of the file.
+/// part of the file: its code, where it begins, its bytes.
 fn file_case(rng: &mut Prng, case: u64, table: &Table) {
     let mut altered = table.clone();
     alter_table(rng, &mut altered);
@@ -151,8 +153,15 @@ fn file_case(rng: &mut Prng, case: u64, table: &Table) {
     }
     let train = rng.below(table.trains.len() + 2);
     let numbers = match train.checked_sub(1).and_then(|i| table.trains.get(i)) {
-        None => vec![14],
-        Some(entry) => [&[0], entry.route.as_slice()].concat(),
+        None => vec![14, 0],
+        Some(entry) => {
+            let mut before = table.clone();
+            before.trains.truncate(train);
+            before.trains[train - 1].route.clear();
+            let mut numbers = vec![0, file_bytes(&before).len()];
+            numbers.extend(entry.route.iter().map(|&segment| segment as usize));
+            numbers
+        }
     };
     theorem(&format!("route-{case}"), &format!("routeOf {} {train}", list(&file_bytes(table))), &numbers);
 }

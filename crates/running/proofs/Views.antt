@@ -1,8 +1,9 @@
 -- What stands around each train, kept while trains move.
-use Prim.Native.Nat.{ℕ, suc, _<_}
+use Prim.Native.Nat.{ℕ, suc, _+_, _<_}
 use mathlib.Core.Path.{_≡_, sym, _∙_}
 use mathlib.Core.List.{List}
 use native.Mathlib.Decide.{ℕ-discrete}
+use native.Mathlib.Numerals.{add-one}
 use native.Mathlib.Omega.{arith}
 use lib.ListN.{length, getD, set, length-set}
 use lib.Seq.{getD-set-same, getD-set-other}
@@ -17,13 +18,13 @@ module _ {around : ℕ → Train → Around} where
 
   -- One more is looked up.
   pub seen-turn : {trains : List Train} {seen : List Around} {n : ℕ} (v : Around) → Seen around trains seen n → n < 16
-      → v ≡ around (suc n) (getD trains n noTrain) → Seen around trains (set seen n v) (suc n)
+      → v ≡ around (n + 1) (getD trains n noTrain) → Seen around trains (set seen n v) (n + 1)
   seen-turn {trains} {seen} {n} v h low e =
       record {
         size = length-set seen n v ∙ h .size;
         is = λ i l.
             elim (ℕ-discrete i n) [
-              | yes here ↦ rw here (getD-set-same seen n v noAround (omega (arith, h .size)) ∙ e)
+              | yes here ↦ rw here (getD-set-same seen n v noAround (omega (arith, h .size)) ∙ rw add-one at e)
               | no other ↦ getD-set-other seen n i v noAround other ∙ h .is i (omega arith)
             ];
       }

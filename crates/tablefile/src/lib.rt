@@ -76,7 +76,8 @@ fn route_code(bytes: &[u8], train: u8) -> u8
     0
 }
 
-// The route of a train as a part of the lent file, and its code. With a code the part is empty.
+// The route of a train as a part of the lent file, in the file's own memory, and its code. With a code the part is empty, at the
+// file's beginning.
 pub fn route<'a>(bytes: &'a [u8], train: u8, code: &mut u8) -> &'a [u8]
     ensures { λ r. ⌜ now (code .exit) ≡ routeCode (now (bytes .entry)) train ⌝ }
     ensures { λ r. ⌜ r .ptr ≡ pointerAfter (bytes .entry .ptr) (routeFrom (now (bytes .entry)) train) ⌝ }

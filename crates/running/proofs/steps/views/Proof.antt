@@ -1,7 +1,6 @@
 -- Each turn looks up one.
 use Prim.Native.Nat.{_-_, _≤_}
 use mathlib.Core.Path.{_≡_}
-use native.Mathlib.Numerals.{add-one}
 use native.Mathlib.Omega.{arith}
 use borrow.Author.Needs.{needs}
 use Rattle.traincomputer.specs.Sight.{aroundIn}
@@ -21,7 +20,7 @@ loop-holds c = (omega arith, seen-start _ _ (search needs))
 
 loop-again : tie.Need-loop-again Inv-loop μ-loop
 loop-again c =
-    (omega arith, rw add-one (seen-turn (c .around .result) (c .before .before .before .loop .inv .1) (omega arith) (rw add-one at (c .around .ensures))))
+    (omega arith, seen-turn (c .around .result) (c .before .before .before .loop .inv .1) (omega arith) (c .around .ensures))
 
 returns : tie.Need-returns Inv-loop μ-loop
 returns c =

@@ -1,13 +1,13 @@
 -- The code of an outcome and one field of the record at index i of each array of its line, added up.
 use Prim.Native.Nat.{ℕ, _+_}
 use lib.ListN.{getD}
-use Rattle.rules.specs.declared.Outcome.{Outcome}
+use Rattle.rules.specs.declared.FileOutcome.{FileOutcome}
 use Rattle.rules.specs.Track.{noSegment, noBoxPlan, noTrainPlan}
 use Rattle.rules.specs.Line.{noBox, noTrain}
 
-abbrev pub sample : Outcome → ℕ → ℕ
+abbrev pub sample : FileOutcome → ℕ → ℕ
 sample o i =
-    o .code
+    o .refusal .code
     + getD (o .line .boxes) i noBox .stem
     + getD (o .line .trains) i noTrain .place
     + getD (o .line .routes) i 0

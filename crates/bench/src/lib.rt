@@ -1,7 +1,7 @@
 // The reader and single steps of the engine as the benchmark calls them, from a static library; writing and runs it takes from
 // `lineengine`. Nothing else uses this crate.
+use rules::FileOutcome;
 use rules::Line;
-use rules::Outcome;
 ghost use mathlib.Core.Path.{_≡_};
 ghost use Prim.Native.Nat.{_%_, _<_, _≤_};
 ghost use mathlib.Core.List.{_++_};
@@ -21,7 +21,7 @@ fn wide(x: u8) -> u64
 }
 
 // The code, and one field of the record at index i of each array of the line, added up.
-fn sampled(outcome: Outcome, i: usize) -> u64
+fn sampled(outcome: FileOutcome, i: usize) -> u64
     requires { ⌜ i < 16 ⌝ }
     ensures { λ r. ⌜ r ≡ sample outcome i ⌝ }
 {
@@ -32,7 +32,7 @@ fn sampled(outcome: Outcome, i: usize) -> u64
     let s = table.segments[i];
     let plan = table.boxes[i];
     let start = table.trains[i];
-    wide(outcome.code)
+    wide(outcome.refusal.code)
         + wide(x.stem)
         + wide(train.place)
         + wide(line.routes[i])
@@ -77,12 +77,12 @@ fn called(start: Line, steps: &[u8], answers: &mut [u8]) -> Line
 // Runs a file and steps, by single checked steps, and answers the code.
 #[no_mangle]
 pub extern "C" fn bench_steps(file: &[u8], steps: &[u8], answers: &mut [u8]) -> u8
-    ensures { λ r. ⌜ r ≡ run checkedStep (now (file .entry)) (now (steps .entry)) (now (answers .entry)) .code ⌝ }
+    ensures { λ r. ⌜ r ≡ run checkedStep (now (file .entry)) (now (steps .entry)) (now (answers .entry)) .refusal .code ⌝ }
     ensures { λ r. ⌜ now (answers .exit) ≡ answered checkedStep (now (file .entry)) (now (steps .entry)) (now (answers .entry)) ⌝ }
 {
     let outcome = reading::read(file);
-    if outcome.code != 0 {
-        return outcome.code;
+    if outcome.refusal.code != 0 {
+        return outcome.refusal.code;
     }
     if answers.len() < running::count(steps.len()) {
         return 26;

@@ -1,4 +1,4 @@
-// The answers to a file, as a line of text with a space between them. Each is a code and, where bytes come with it, a colon and
+// The answers to a file, as a line of text with a space between them. Each is a refusal and, where bytes come with it, a colon and
 // the bytes in hexadecimal.
 ghost use Prim.Native.Nat.{_≤_};
 ghost use mathlib.Core.Path.{_≡_};
@@ -8,17 +8,18 @@ use crate::parts::part;
 use crate::text::put;
 use crate::text::put_decimal;
 use crate::text::put_hex;
+use rules::Refusal;
 use rules::Table;
 use std::num::wrapping_add_u8;
 
 // Room for each file of a corpus. A file that is not refused for its length has at most 4,792 bytes.
 const LONGEST: usize = 4800;
 
-// Decides a file. A refused file's line has the reader's code alone, an accepted one's also the writer's answers and the routes.
+// Decides a file. A refused file's line has the reader's refusal alone, an accepted one's also the writer's answers and the routes.
 pub(crate) fn decide(file: &[u8]) {
     let outcome = reading::read(file);
-    put_decimal(outcome.code);
-    if outcome.code == 0 {
+    put_refusal(outcome.refusal);
+    if outcome.refusal.code == 0 {
         put_written(outcome.line.table);
         put_routes(file, outcome.line.table.k);
     }
@@ -48,7 +49,7 @@ fn changed_byte(from: &[u8], i: usize, index: usize, value: u8) -> u8 {
     if i == index { value } else { byte(from, i) }
 }
 
-// The writer's code and bytes for a buffer as long as the file, and its code for one that is a byte shorter.
+// The writer's refusal and bytes for a buffer as long as the file, and its refusal for one that is a byte shorter.
 fn put_written(table: Table) {
     let size = writing::file_size(table);
     if size > 0 {
@@ -67,12 +68,12 @@ fn put_write_in(table: Table, size: usize)
     put_write(table, &mut buffer[0..size]);
 }
 
-// The writer's code for a lent buffer and, where it is 0, the bytes.
+// The writer's refusal for a lent buffer and, where its code is 0, the bytes.
 fn put_write(table: Table, buffer: &mut [u8]) {
-    let code = writing::write(table, buffer);
+    let refusal = writing::write(table, buffer);
     put(b' ');
-    put_decimal(code);
-    if code == 0 {
+    put_refusal(refusal);
+    if refusal.code == 0 {
         put(b':');
         put_hex(buffer);
     }
@@ -92,17 +93,30 @@ fn put_routes(file: &[u8], k: u8) {
     put_route(file, last);
 }
 
-// A train's code and route.
-fn put_route(file: &[u8], train: u8) {
+// A train's refusal and route.
+fn put_route(file: &[u8], number: u8) {
     let mut code: u8 = 0;
-    let route = tablefile::route(file, train, &mut code);
+    let mut train: u8 = 0;
+    let mut place: u8 = 0;
+    let route = tablefile::route(file, number, &mut code, &mut train, &mut place);
     put(b' ');
-    put_coded(code, route);
+    put_refused(Refusal { code, train, place }, route);
 }
 
-// A code, a colon and bytes.
-pub(crate) fn put_coded(code: u8, bytes: &[u8]) {
-    put_decimal(code);
+// A refusal: its code and, unless both are 0, train and place, each after a comma.
+fn put_refusal(refusal: Refusal) {
+    put_decimal(refusal.code);
+    if (refusal.train != 0) | (refusal.place != 0) {
+        put(b',');
+        put_decimal(refusal.train);
+        put(b',');
+        put_decimal(refusal.place);
+    }
+}
+
+// A refusal, a colon and bytes.
+pub(crate) fn put_refused(refusal: Refusal, bytes: &[u8]) {
+    put_refusal(refusal);
     put(b':');
     put_hex(bytes);
 }

@@ -1,7 +1,7 @@
 // Runs of the engine: a base file with a list of steps, and a single step on a line record made up from the line that they lead to.
 // The lent buffers are filled with bytes that are no code, so that what is left alone shows.
 ghost use Prim.Native.Nat.{_≤_};
-use crate::answers::put_coded;
+use crate::answers::put_refused;
 use crate::changes::altered;
 use crate::numbers::put_line;
 use crate::parts::byte;
@@ -39,10 +39,10 @@ fn put_run_in(size: usize, file: &[u8], steps: &[u8])
     put_run(file, steps, &mut buffer[0..size]);
 }
 
-// A run's code, the whole lent buffer after it, and the line.
+// A run's refusal, the whole lent buffer after it, and the line.
 fn put_run(file: &[u8], steps: &[u8], buffer: &mut [u8]) {
     let outcome = engine::run(file, steps, buffer);
-    put_coded(outcome.code, buffer);
+    put_refused(outcome.refusal, buffer);
     put_line(outcome.line);
 }
 

@@ -1,6 +1,7 @@
 -- What code 27 says of a train and of a box, in the words of the functions that test it.
 use Prim.Native.Nat.{ℕ, _+_, _≤_, _<_}
-use mathlib.Core.Path.{_≡_}
+use mathlib.Core.Path.{_≡_, sym, _∙_, ap}
+use mathlib.Core.Logic.{_≢_}
 use mathlib.Core.Bool.{Bool, true, false, not, _||_}
 use mathlib.Core.List.{List}
 use native.Mathlib.Omega.{arith}
@@ -15,6 +16,7 @@ use Rattle.rules.specs.declared.BoxPlan.{BoxPlan}
 use Rattle.rules.specs.declared.SwitchBox.{SwitchBox}
 use Rattle.rules.specs.declared.Train.{Train}
 use Rattle.rules.specs.declared.Around.{Around}
+use Rattle.rules.specs.declared.Refusal.{Refusal}
 use Rattle.rules.specs.Rows.{first, nth, outside}
 use Rattle.rules.specs.Track.{noBoxPlan, Track, positionFits}
 use Rattle.rules.specs.Placing.{routeShapeFault, routeFault}
@@ -22,7 +24,6 @@ use Rattle.rules.specs.Line.{noTrain, noBox, aroundOn}
 use Rattle.rules.specs.Steps.{addressRows}
 use Rattle.rules.specs.Record.{answerCode, addressFault, messageFault, trainFault, trainsFault, switchBoxFault}
 use Rattle.rules.proofs.Tests.{tests, is-true, or-left, or-last, not-same, answered}
-use Rattle.placing.proofs.Routes.{route-told}
 use Rattle.rules.proofs.Rows.{nth-at, nth-past, none-found}
 
 -- The train and the box at index i are those of number i + 1; z is what a function answered for it, and v what a branch found.
@@ -98,10 +99,10 @@ module _ (n : ℕ) (track : Track) (point : ℕ → Bool) (routes : List ℕ) (i
       let found : routeShapeFault (r .direction) (r .length) ≡ true = answered _ _ _ e f in
       search tests depth 12
 
-  pub faulty-route : (q : Bool) → 1 ≤ i → i ≤ 16 → q ≡ (outside 16 i || routeFault n track routes i (r .direction) (r .length)) → q ≡ true → Faulty
+  pub faulty-route : (q : Refusal) → q ≡ routeFault n track routes i (r .direction) (r .length) → (q .code ≡ 0 → ⊥) → Faulty
   unfolding trainFault
-  faulty-route q l h e f =
-      let found : routeFault n track routes i (r .direction) (r .length) ≡ true = route-told i q _ true l h e f in
+  faulty-route q e f =
+      let found : routeFault n track routes i (r .direction) (r .length) .code ≢ 0 = λ z. f (ap (λ (x : Refusal). x .code) e ∙ z) in
       search tests depth 12
 
   pub before-route : r .place ≡ 0 → Faulty
@@ -124,13 +125,11 @@ module _ (n : ℕ) (track : Track) (point : ℕ → Bool) (routes : List ℕ) (i
   unfolding trainFault
   many-covered h = search tests depth 12
 
-  pub last-message : (s q z : Bool)
+  pub last-message : (s z : Bool) (q : Refusal)
       → s ≡ routeShapeFault (r .direction) (r .length)
       → s ≡ false
-      → 1 ≤ i
-      → i ≤ 16
-      → q ≡ (outside 16 i || routeFault n track routes i (r .direction) (r .length))
-      → q ≡ false
+      → q ≡ routeFault n track routes i (r .direction) (r .length)
+      → q .code ≡ 0
       → (r .place ≡ 0 → ⊥)
       → r .place ≤ r .length
       → r .covered ≤ r .place
@@ -139,9 +138,9 @@ module _ (n : ℕ) (track : Track) (point : ℕ → Bool) (routes : List ℕ) (i
       → z ≡ messageFault (aroundOn track point routes i r) r (r .message)
       → z ≡ trainFault n track point routes i r
   unfolding trainFault
-  last-message s q z e f low high g h placed within tail some few last =
+  last-message s z q e f g h placed within tail some few last =
       let shaped : routeShapeFault (r .direction) (r .length) ≡ false = answered _ _ _ e f in
-      let routed : routeFault n track routes i (r .direction) (r .length) ≡ false = route-told i q _ false low high g h in
+      let routed : routeFault n track routes i (r .direction) (r .length) .code ≡ 0 = ap (λ (x : Refusal). x .code) (sym g) ∙ h in
       search tests depth 12
 
 -- A box of which all but the holder at its right is fine; f is what a function answered of its position.

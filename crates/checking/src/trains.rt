@@ -4,7 +4,6 @@ use rules::Request;
 use rules::Train;
 use traincomputer::sight;
 ghost use mathlib.Core.Path.{_≡_};
-ghost use Prim.Native.Nat.{_≤_};
 ghost use Rattle.rules.specs.Track.{trackIn, pointIn};
 ghost use Rattle.rules.specs.Record.{answerCode, addressFault, messageFault, trainFault, trainsFault};
 ghost use Rattle.traincomputer.specs.Sight.{aroundIn};
@@ -81,14 +80,13 @@ fn train_faulty(
     b: &[u8; 256],
     kinds: &[u8; 256],
 ) -> bool
-    requires { ⌜ 1 ≤ number ⌝ }
-    requires { ⌜ number ≤ 16 ⌝ }
     ensures { λ x. ⌜ x ≡ trainFault n (trackIn (now (a .entry)) (now (b .entry))) (pointIn (now (kinds .entry))) (now (routes .entry)) number r ⌝ }
 {
     if placing::shape_faulty(r.direction, r.length) {
         return true;
     }
-    if placing::route_faulty(routes, number, r.direction, r.length, n, a, b) {
+    let fault = placing::route_fault(routes, number, r.direction, r.length, n, a, b);
+    if fault.code != 0 {
         return true;
     }
     if r.place == 0 {

@@ -1,6 +1,6 @@
 -- A single step: 27 by the parts of the record that is handed in, then the step itself.
 use Prim.Native.Nat.{ℕ, suc}
-use mathlib.Core.Path.{_≡_, refl, sym, _∙_}
+use mathlib.Core.Path.{_≡_, refl, sym, _∙_, ap}
 use mathlib.Core.Logic.{_≢_}
 use mathlib.Core.Bool.{Bool, true, false, not, _||_}
 use mathlib.Core.List.{List}
@@ -15,11 +15,12 @@ use Rattle.rules.specs.declared.Around.{Around}
 use Rattle.rules.specs.declared.Effect.{Effect}
 use Rattle.rules.specs.declared.Effect.the-variants.{Refused, Changed}
 use Rattle.rules.specs.declared.Outcome.{Outcome}
+use Rattle.rules.specs.declared.Refusal.{Refusal}
 use Rattle.rules.specs.Rows.{first, outside, setNth}
 use Rattle.rules.specs.Track.{trackIn, pointIn}
 use Rattle.rules.specs.Line.{noTrain, around, putTrain, putBox}
 use Rattle.rules.specs.Steps.{Step, apply, formRows, step}
-use Rattle.rules.specs.Placing.{partsCode, tableCode}
+use Rattle.rules.specs.Placing.{tableCode, refusalBy, partsRefusal, tableRefusal}
 use Rattle.rules.specs.Record.{trainsFault, switchBoxesFault, recordFault, checkedStep}
 use Rattle.rules.proofs.Tests.{or-left, or-right}
 use Rattle.rules.proofs.Accepted.{Limits, accepted}
@@ -29,14 +30,14 @@ use Rattle.traincomputer.specs.Sight.{aroundIn}
 use Rattle.running.specs.Loop.{Columns, standing}
 use Rattle.running.proofs.Turn.{track-shown, points-shown, around-shown, Taken, Turned, train-read}
 
--- A line whose records have their places, with the columns of its table and the table's code.
-pub record Coded (l : Line) (a b kinds : List ℕ) (c : ℕ) : Type 0 where
+-- A line whose records have their places, with the columns of its table and what refuses the table.
+pub record Coded (l : Line) (a b kinds : List ℕ) (r : Refusal) : Type 0 where
   pub columns : Columns (l .table) a b kinds
   pub segments : length (l .table .segments) ≡ 96
   pub plans : length (l .table .boxes) ≡ 96
-  pub code
-      : c
-      ≡ partsCode (l .table .version) (l .table .n) (l .table .m) (l .table .k) (trackIn a b) (l .table .boxes) (l .table .trains) (l .table .routes)
+  pub refusal
+      : r
+      ≡ partsRefusal (l .table .version) (l .table .n) (l .table .m) (l .table .k) (trackIn a b) (l .table .boxes) (l .table .trains) (l .table .routes)
 
 -- What the check finds at the trains and at the boxes of a line.
 abbrev atTrains : Line → List ℕ → List ℕ → List ℕ → Bool
@@ -46,9 +47,9 @@ abbrev atBoxes : Line → Bool
 atBoxes l = ltb 96 (l .table .m) || switchBoxesFault (l .table .k) (l .table .m) (l .table .boxes) (l .boxes)
 
 -- All three parts of the check find nothing.
-pub record Passed (l : Line) (a b kinds : List ℕ) (c : ℕ) : Type 0 where
-  pub coded : Coded l a b kinds c
-  pub table : c ≡ 0
+pub record Passed (l : Line) (a b kinds : List ℕ) (r : Refusal) : Type 0 where
+  pub coded : Coded l a b kinds r
+  pub table : r .code ≡ 0
   pub trains : atTrains l a b kinds ≡ false
   pub boxes : atBoxes l ≡ false
 
@@ -58,41 +59,42 @@ unfolding checkedStep
 refused-27 s e = rw e refl
 
 -- The code is the table's; where it is 0, the table is within its limits; and the check is its three parts.
-module _ {l : Line} {a b kinds : List ℕ} {c : ℕ} (h : Coded l a b kinds c) where
-  coded-table : c ≡ tableCode (l .table)
-  coded-table = parts-answer (l .table) c (track-shown (h .columns) (h .segments)) (h .code)
+module _ {l : Line} {a b kinds : List ℕ} {r : Refusal} (h : Coded l a b kinds r) where
+  coded-table : r .code ≡ tableCode (l .table)
+  unfolding tableRefusal partsRefusal refusalBy tableCode
+  coded-table = ap (λ (x : Refusal). x .code) (parts-answer (l .table) r (track-shown (h .columns) (h .segments)) (h .refusal))
 
-  coded-limits : c ≡ 0 → Limits (l .table .n) (l .table .m) (l .table .k)
+  coded-limits : r .code ≡ 0 → Limits (l .table .n) (l .table .m) (l .table .k)
   coded-limits e = accepted (l .table) (sym coded-table ∙ e) .limits
 
-  by-parts : recordFault l ≡ (not (eqb c 0) || atTrains l a b kinds || atBoxes l)
+  by-parts : recordFault l ≡ (not (eqb (r .code) 0) || atTrains l a b kinds || atBoxes l)
   unfolding recordFault
   by-parts =
       let t = l .table in
-      elim (ℕ-discrete c 0) [
+      elim (ℕ-discrete (r .code) 0) [
         | yes e ↦
             rw (le-ltb 96 (t .m) (coded-limits e .boxesHigh), coded-table)
             (sym (λ j.
             not (eqb (tableCode t) 0)
             || trainsFault (t .n) (t .k) (track-shown (h .columns) (h .segments) j) (points-shown (h .columns) (h .segments) (h .plans) j) (l .routes) (l .trains)
             || switchBoxesFault (t .k) (t .m) (t .boxes) (l .boxes)))
-        | no e ↦ rw (← coded-table, ne-eqb c 0 e)
+        | no e ↦ rw (← coded-table, ne-eqb (r .code) 0 e)
       ]
 
   -- 27 where a part of the check finds something.
-  pub table-faulty : (s : Step) → (c ≡ 0 → ⊥) → record { code = 27; line = l } ≡ checkedStep l s
-  table-faulty s n = refused-27 s (by-parts ∙ rw (ne-eqb c 0 n))
+  pub table-faulty : (s : Step) → (r .code ≡ 0 → ⊥) → record { code = 27; line = l } ≡ checkedStep l s
+  table-faulty s n = refused-27 s (by-parts ∙ rw (ne-eqb (r .code) 0 n))
 
   pub train-faulty : (s : Step) → atTrains l a b kinds ≡ true → record { code = 27; line = l } ≡ checkedStep l s
   train-faulty s e =
-      refused-27 s (by-parts ∙ or-left (not (eqb c 0) || atTrains l a b kinds) (atBoxes l) (or-right (not (eqb c 0)) (atTrains l a b kinds) e))
+      refused-27 s (by-parts ∙ or-left (not (eqb (r .code) 0) || atTrains l a b kinds) (atBoxes l) (or-right (not (eqb (r .code) 0)) (atTrains l a b kinds) e))
 
   pub box-faulty : (s : Step) → atBoxes l ≡ true → record { code = 27; line = l } ≡ checkedStep l s
-  box-faulty s e = refused-27 s (by-parts ∙ or-right (not (eqb c 0) || atTrains l a b kinds) (atBoxes l) e)
+  box-faulty s e = refused-27 s (by-parts ∙ or-right (not (eqb (r .code) 0) || atTrains l a b kinds) (atBoxes l) e)
 
-module _ {l : Line} {a b kinds : List ℕ} {c : ℕ} (h : Passed l a b kinds c) where
+module _ {l : Line} {a b kinds : List ℕ} {r : Refusal} (h : Passed l a b kinds r) where
   pub sound : recordFault l ≡ false
-  sound = by-parts (h .coded) ∙ rw (eq-eqb c 0 (h .table), h .trains, h .boxes)
+  sound = by-parts (h .coded) ∙ rw (eq-eqb (r .code) 0 (h .table), h .trains, h .boxes)
 
   taken-as : (o : Outcome) (s : Step) → o ≡ step l s → o ≡ checkedStep l s
   unfolding checkedStep

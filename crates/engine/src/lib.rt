@@ -1,5 +1,6 @@
 // The line engine: a single step on any line record, and a run of a table file and all its steps.
 use rules::Effect;
+use rules::FileOutcome;
 use rules::Line;
 use rules::Outcome;
 use traincomputer::sight;
@@ -8,13 +9,13 @@ ghost use Rattle.rules.specs.Record.{checkedStep};
 ghost use Rattle.rules.specs.Run.{run, answered, SafeRun};
 
 // Runs a table file and all its steps, three bytes each: reads the table, takes every step, and puts the codes into the lent
-// buffer. The code is the file's, then 26 where the buffer is shorter than the answers; with any code but 0 the buffer is as it
-// was. A last step of one or two bytes is answered 13 and changes nothing. What a run leaves and answers is what calls of `step` one
+// buffer. It is refused as the file is, then with 26 where the buffer is shorter than the answers; with any code but 0 the buffer is
+// as it was. A last step of one or two bytes is answered 13 and changes nothing. What a run leaves and answers is what calls of `step` one
 // after the other do, and demand 3 holds of it.
-pub fn run(file: &[u8], steps: &[u8], answers: &mut [u8]) -> Outcome
+pub fn run(file: &[u8], steps: &[u8], answers: &mut [u8]) -> FileOutcome
     ensures { λ r. ⌜ r ≡ run checkedStep (now (file .entry)) (now (steps .entry)) (now (answers .entry)) ⌝ }
     ensures { λ r. ⌜ now (answers .exit) ≡ answered checkedStep (now (file .entry)) (now (steps .entry)) (now (answers .entry)) ⌝ }
-    ensures { λ r. ⌜ (r .code ≡ 0 → SafeRun (now (file .entry)) (now (steps .entry)) (r .line) (now (answers .entry)) (now (answers .exit))) ⌝ }
+    ensures { λ r. ⌜ (r .refusal .code ≡ 0 → SafeRun (now (file .entry)) (now (steps .entry)) (r .line) (now (answers .entry)) (now (answers .exit))) ⌝ }
 {
     running::run(file, steps, answers)
 }
@@ -30,7 +31,7 @@ pub fn step(mut line: Line, kind: u8, train: u8, number: u8) -> Outcome
     let a = network::far_boxes(segments, 1);
     let b = network::far_boxes(segments, 0);
     let kinds = sight::kinds(plans);
-    if layout::parts_code(
+    let refusal = layout::parts_refusal(
         line.table.version,
         line.table.n,
         line.table.m,
@@ -40,9 +41,8 @@ pub fn step(mut line: Line, kind: u8, train: u8, number: u8) -> Outcome
         &line.table.routes,
         &a,
         &b,
-    )
-        != 0
-    {
+    );
+    if refusal.code != 0 {
         return Outcome { code: 27, line };
     }
     let trains = line.trains;

@@ -1,16 +1,18 @@
 -- The codes of a table's head by the tests that lead to them, and rows of codes one after the other.
 use Prim.Native.Nat.{ℕ, _≤_, _<_}
-use mathlib.Core.Path.{_≡_, refl, sym, _∙_}
+use mathlib.Core.Path.{_≡_, refl, sym, _∙_, ap}
 use mathlib.Core.Bool.{true, false}
 use mathlib.Core.List.{List, _++_}
 use Rattle.rules.specs.declared.BoxPlan.{BoxPlan}
 use Rattle.rules.specs.declared.TrainPlan.{TrainPlan}
 use Rattle.rules.specs.declared.Table.{Table}
+use Rattle.rules.specs.declared.Refusal.{Refusal}
 use Rattle.rules.specs.Rows.{first, outside}
 use Rattle.rules.specs.Track.{Track, trackOf}
 use Rattle.rules.specs.Network.{headRows, limitsFault, knownVersion, networkRows}
-use Rattle.rules.specs.Placing.{placingRows, partsCode, tableCode}
+use Rattle.rules.specs.Placing.{withoutPlace, routesFault, placingRows, partsCode, tellsPlace, refusalBy, partsRefusal, tableRefusal}
 use Rattle.rules.proofs.Tests.{tests, first-before, first-skip, first-zero-iff}
+use Rattle.rules.proofs.RouteFault.{refused-nowhere, none-placeless, row-placeless}
 
 module _ (version n m k : ℕ) where
   -- Codes 3 and 4, each by the tests before it, and none.
@@ -56,19 +58,43 @@ module _ (version n m k : ℕ) where
         let (ends, (kinds, (listing, (loop, _)))) = simp first-zero-iff at e in
         sym (first-skip _ _ _ ends (first-skip _ _ _ kinds (first-skip _ _ _ listing (first-skip _ _ _ loop refl))))
 
-    -- The code of the head, of the network and of the trains is the code of all parts, where those before it are 0.
-    pub head-counts : (h : ℕ) → h ≡ first (headRows version n m k) → (h ≡ 0 → ⊥) → h ≡ partsCode version n m k track plans trains routes
+    head-counts : (h : ℕ) → h ≡ first (headRows version n m k) → (h ≡ 0 → ⊥) → h ≡ partsCode version n m k track plans trains routes
     unfolding partsCode
     head-counts h e z = e ∙ first-before _ _ (λ y. z (e ∙ y))
 
-    pub network-counts : (h c : ℕ) → h ≡ first (headRows version n m k) → h ≡ 0 → c ≡ first (networkRows n m track plans) → (c ≡ 0 → ⊥) → c ≡ partsCode version n m k track plans trains routes
+    network-counts : (h c : ℕ) → h ≡ first (headRows version n m k) → h ≡ 0 → c ≡ first (networkRows n m track plans) → (c ≡ 0 → ⊥) → c ≡ partsCode version n m k track plans trains routes
     network-counts h c e z f y = f ∙ first-before _ _ (λ x. y (f ∙ x)) ∙ sym (head-clear (sym e ∙ z))
 
-    pub placing-counts : (h c r : ℕ) → h ≡ first (headRows version n m k) → h ≡ 0 → c ≡ first (networkRows n m track plans) → c ≡ 0 → r ≡ first (placingRows n k track trains routes) → r ≡ partsCode version n m k track plans trains routes
-    placing-counts h c r e z f y g = g ∙ sym (network-clear (sym f ∙ y)) ∙ sym (head-clear (sym e ∙ z))
+    -- The codes of head and network are about no place of a route.
+    head-placeless : tellsPlace (first (headRows version n m k)) ≡ false
+    unfolding headRows tellsPlace
+    head-placeless = row-placeless 3 _ _ refl (row-placeless 4 _ _ refl none-placeless)
 
--- What a function answered for the parts of a table, r, is the table's code.
-pub parts-answer : (t : Table) (r : ℕ) {track : Track} → track ≡ trackOf t
-    → r ≡ partsCode (t .version) (t .n) (t .m) (t .k) track (t .boxes) (t .trains) (t .routes) → r ≡ tableCode t
-unfolding tableCode
+    network-placeless : tellsPlace (first (networkRows n m track plans)) ≡ false
+    unfolding networkRows tellsPlace
+    network-placeless =
+        row-placeless 6 _ _ refl (row-placeless 7 _ _ refl (row-placeless 8 _ _ refl (row-placeless 9 _ _ refl none-placeless)))
+
+    -- What refuses the head, the network or the trains refuses the table, where the codes before it are 0; x is what a function
+    -- answered.
+    module _ (x : Refusal) (h : ℕ) (e : h ≡ first (headRows version n m k)) where
+      pub head-refuses : (h ≡ 0 → ⊥) → x ≡ withoutPlace h → x ≡ partsRefusal version n m k track plans trains routes
+      unfolding partsRefusal
+      head-refuses z is = refused-nowhere _ _ x h is (rw e head-placeless) (head-counts h e z)
+
+      module _ (z : h ≡ 0) (c : ℕ) (f : c ≡ first (networkRows n m track plans)) where
+        pub network-refuses : (c ≡ 0 → ⊥) → x ≡ withoutPlace c → x ≡ partsRefusal version n m k track plans trains routes
+        unfolding partsRefusal
+        network-refuses y is = refused-nowhere _ _ x c is (rw f network-placeless) (network-counts h c e z f y)
+
+        pub placing-refuses : c ≡ 0 → x ≡ refusalBy (first (placingRows n k track trains routes)) (routesFault n k track trains routes) → x ≡ partsRefusal version n m k track plans trains routes
+        unfolding partsRefusal
+        placing-refuses y is =
+            let code = sym (network-clear (sym f ∙ y)) ∙ sym (head-clear (sym e ∙ z)) in
+            is ∙ ap (λ (c : ℕ). refusalBy c (routesFault n k track trains routes)) code
+
+-- What a function answered for the parts of a table, r, is why the table is refused.
+pub parts-answer : (t : Table) (r : Refusal) {track : Track} → track ≡ trackOf t
+    → r ≡ partsRefusal (t .version) (t .n) (t .m) (t .k) track (t .boxes) (t .trains) (t .routes) → r ≡ tableRefusal t
+unfolding tableRefusal
 parts-answer t r made e = rw made at e

@@ -1,13 +1,14 @@
-// Whether a table record is accepted: codes 3, 4 and 6 to 12, by the definition `tableCode` of `rules`. Here are 3 and 4; the crate
-// `network` has 6 to 9, and `placing` 10 to 12.
+// Whether a table record is accepted: codes 3, 4, 6 to 12 and 28, by the definition `tableRefusal` of `rules`. Here are 3 and 4; the
+// crate `network` has 6 to 9, and `placing` 10 to 12 and 28.
 use rules::BoxPlan;
+use rules::Refusal;
 use rules::Table;
 use rules::TrainPlan;
 ghost use mathlib.Core.Path.{_≡_};
 ghost use Rattle.rules.specs.Rows.{first};
 ghost use Rattle.rules.specs.Track.{trackIn};
 ghost use Rattle.rules.specs.Network.{headRows};
-ghost use Rattle.rules.specs.Placing.{partsCode, tableCode};
+ghost use Rattle.rules.specs.Placing.{partsRefusal, tableRefusal};
 
 // Codes 3 and 4: the version, and the numbers of segments, boxes and trains.
 pub fn head_code(version: u16, n: u8, m: u8, k: u8) -> u8
@@ -31,9 +32,9 @@ pub fn head_code(version: u16, n: u8, m: u8, k: u8) -> u8
     0
 }
 
-// The code of a table record by its parts and by the boxes at the A ends and at the B ends of segments: 3, 4 and 6 to 12 in their
-// order, or 0.
-pub fn parts_code(
+// Why a table record is refused, by its parts and by the boxes at the A ends and at the B ends of segments: 3, 4, 6 to 10, 11 or 28,
+// and 12, in this order.
+pub fn parts_refusal(
     version: u16,
     n: u8,
     m: u8,
@@ -43,28 +44,28 @@ pub fn parts_code(
     routes: &[u8; 1024],
     a: &[u8; 256],
     b: &[u8; 256],
-) -> u8
-    ensures { λ r. ⌜ r ≡ partsCode version n m k (trackIn (now (a .entry)) (now (b .entry))) plans trains (now (routes .entry)) ⌝ }
+) -> Refusal
+    ensures { λ r. ⌜ r ≡ partsRefusal version n m k (trackIn (now (a .entry)) (now (b .entry))) plans trains (now (routes .entry)) ⌝ }
 {
     let head = head_code(version, n, m, k);
     if head != 0 {
-        return head;
+        return placing::without_place(head);
     }
     let network = network::network_code(n, m, plans, a, b);
     if network != 0 {
-        return network;
+        return placing::without_place(network);
     }
-    placing::placing_code(n, k, trains, routes, a, b)
+    placing::placing_refusal(n, k, trains, routes, a, b)
 }
 
-// The code of a table record.
-pub fn table_code(t: Table) -> u8
-    ensures { λ r. ⌜ r ≡ tableCode t ⌝ }
+// Why a table record is refused.
+pub fn table_refusal(t: Table) -> Refusal
+    ensures { λ r. ⌜ r ≡ tableRefusal t ⌝ }
 {
     let segments = t.segments;
     let plans = t.boxes;
     let trains = t.trains;
     let a = network::far_boxes(segments, 1);
     let b = network::far_boxes(segments, 0);
-    parts_code(t.version, t.n, t.m, t.k, plans, trains, &t.routes, &a, &b)
+    parts_refusal(t.version, t.n, t.m, t.k, plans, trains, &t.routes, &a, &b)
 }

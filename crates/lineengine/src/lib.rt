@@ -2,38 +2,54 @@
 // bytes, keeps nothing between calls and asks nothing of its caller but what the language asks of references. The header for C
 // is embedding/lineengine.h.
 ghost use mathlib.Core.Path.{_≡_};
-ghost use Rattle.rules.specs.File.{fileCode};
+ghost use Rattle.rules.specs.File.{fileRefusal};
 ghost use Rattle.rules.specs.Record.{checkedStep};
 ghost use Rattle.rules.specs.Run.{run, answered};
 ghost use Rattle.rules.specs.Printout.{printCode, printedText, printedAnswers};
-ghost use Rattle.lineengine.specs.WriteBack.{writeBackCode, writtenBack};
+ghost use Rattle.lineengine.specs.WriteBack.{writeBackRefusal, writtenBack};
 ghost use Rattle.lineengine.specs.Safe.{SafelyAnswered};
 ghost use Rattle.lineengine.specs.Print.{printedSize};
 
-// The code of a table file: 0, or the first of 1 to 12 that refuses it.
+// The code of a table file: 0, or why it is refused, 1 to 12 or 28; and with 11 and 28 the train and the place on its route, counted
+// from 1, with any other code 0.
 #[no_mangle]
-pub extern "C" fn lineengine_check(table: &[u8]) -> u8
-    ensures { λ r. ⌜ r ≡ fileCode (now (table .entry)) ⌝ }
+pub extern "C" fn lineengine_check(table: &[u8], train: &mut u8, place: &mut u8) -> u8
+    ensures { λ r. ⌜ r ≡ fileRefusal (now (table .entry)) .code ⌝ }
+    ensures { λ r. ⌜ now (train .exit) ≡ fileRefusal (now (table .entry)) .train ⌝ }
+    ensures { λ r. ⌜ now (place .exit) ≡ fileRefusal (now (table .entry)) .place ⌝ }
 {
     let checked = tablefile::read_table(table);
-    checked.code
+    *train = checked.refusal.train;
+    *place = checked.refusal.place;
+    checked.refusal.code
 }
 
-// Runs a table file and all its steps, three bytes each, and puts the code of each step into the lent buffer. The code is the
-// file's, then 26 where the buffer is shorter than the answers; with any code but 0 the buffer is as it was. Demand 3 holds of
-// what was answered and of the line to which the steps led.
+// Runs a table file and all its steps, three bytes each, and puts the code of each step into the lent buffer. The code, train and
+// place are the file's, then the code is 26 where the buffer is shorter than the answers; with any code but 0 the buffer is as it
+// was. Demand 3 holds of what was answered and of the line to which the steps led.
 #[no_mangle]
-pub extern "C" fn lineengine_run(table: &[u8], steps: &[u8], answers: &mut [u8]) -> u8
-    ensures { λ r. ⌜ r ≡ run checkedStep (now (table .entry)) (now (steps .entry)) (now (answers .entry)) .code ⌝ }
+pub extern "C" fn lineengine_run(
+    table: &[u8],
+    steps: &[u8],
+    answers: &mut [u8],
+    train: &mut u8,
+    place: &mut u8,
+) -> u8
+    ensures { λ r. ⌜ r ≡ run checkedStep (now (table .entry)) (now (steps .entry)) (now (answers .entry)) .refusal .code ⌝ }
+    ensures { λ r. ⌜ now (train .exit) ≡ run checkedStep (now (table .entry)) (now (steps .entry)) (now (answers .entry)) .refusal .train ⌝ }
+    ensures { λ r. ⌜ now (place .exit) ≡ run checkedStep (now (table .entry)) (now (steps .entry)) (now (answers .entry)) .refusal .place ⌝ }
     ensures { λ r. ⌜ now (answers .exit) ≡ answered checkedStep (now (table .entry)) (now (steps .entry)) (now (answers .entry)) ⌝ }
     ensures { λ r. ⌜ (r ≡ 0 → SafelyAnswered (now (table .entry)) (now (steps .entry)) (now (answers .entry)) (now (answers .exit))) ⌝ }
 {
     let ran = engine::run(table, steps, answers);
-    ran.code
+    *train = ran.refusal.train;
+    *place = ran.refusal.place;
+    ran.refusal.code
 }
 
 // The printout of a table file and an input, at the front of the lent text, its length, and the codes of the steps in the
-// answers. With code 26, where a buffer is too short, all three are as they were. A refused table prints its code.
+// answers. With code 26, where a buffer is too short, all three are as they were. A refused table prints its code, with 11 and 28 train
+// and place too.
 #[no_mangle]
 pub extern "C" fn lineengine_print(
     table: &[u8],
@@ -56,18 +72,30 @@ pub extern "C" fn lineengine_print(
     0
 }
 
-// Reads a table file and writes its table to the front of the lent buffer: the bytes of the file. The code is the file's, then 26
-// where the buffer is shorter than the file; with any code but 0 the buffer is as it was.
+// Reads a table file and writes its table to the front of the lent buffer: the bytes of the file. The code, train and place are the
+// file's, then the code is 26 where the buffer is shorter than the file; with any code but 0 the buffer is as it was.
 #[no_mangle]
-pub extern "C" fn lineengine_write_back(table: &[u8], buffer: &mut [u8]) -> u8
-    ensures { λ r. ⌜ r ≡ writeBackCode (now (table .entry)) (now (buffer .entry)) ⌝ }
+pub extern "C" fn lineengine_write_back(
+    table: &[u8],
+    buffer: &mut [u8],
+    train: &mut u8,
+    place: &mut u8,
+) -> u8
+    ensures { λ r. ⌜ r ≡ writeBackRefusal (now (table .entry)) (now (buffer .entry)) .code ⌝ }
+    ensures { λ r. ⌜ now (train .exit) ≡ writeBackRefusal (now (table .entry)) (now (buffer .entry)) .train ⌝ }
+    ensures { λ r. ⌜ now (place .exit) ≡ writeBackRefusal (now (table .entry)) (now (buffer .entry)) .place ⌝ }
     ensures { λ r. ⌜ now (buffer .exit) ≡ writtenBack (now (table .entry)) (now (buffer .entry)) ⌝ }
 {
     let file = tablefile::read_table(table);
-    let code = file.code;
-    if code != 0 {
-        return code;
+    let refusal = file.refusal;
+    if refusal.code != 0 {
+        *train = refusal.train;
+        *place = refusal.place;
+        return refusal.code;
     }
     let record = file.table;
-    writing::write(record, buffer)
+    let wrote = writing::write(record, buffer);
+    *train = wrote.train;
+    *place = wrote.place;
+    wrote.code
 }

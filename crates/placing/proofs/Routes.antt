@@ -1,19 +1,22 @@
 -- What the conditions on routes say, in the words of the functions that test them.
-use Prim.Native.Nat.{ℕ, _+_, _-_, _*_, _≤_, _<_}
-use mathlib.Core.Path.{_≡_, sym, _∙_}
-use mathlib.Core.Bool.{Bool, true, false, false≢true, not, _&&_, _||_}
+use Prim.Native.Nat.{ℕ, zero, suc, _+_, _-_, _*_, _≤_, _<_}
+use mathlib.Core.Path.{_≡_, refl, sym, _∙_, ap}
+use mathlib.Core.Logic.{_≢_}
+use mathlib.Core.Bool.{Bool, true, false, false≢true}
 use mathlib.Core.List.{List}
 use native.Mathlib.Decide.{decLt}
 use native.Mathlib.Omega.{arith}
 use borrow.Author.Tests.{eq-eqb, ne-eqb}
 use lib.Dec.{eqb, ltb}
-use lib.ListN.{length, getD}
-use Rattle.rules.proofs.Tests.{tests, answered, outside-false-iff}
-use Rattle.rules.proofs.Rows.{none-found, nth-at, nth-past, route-index, route-past, route-first}
+use lib.ListN.{length, getD, List·getD-eq-default}
+use Rattle.rules.proofs.Tests.{tests, answered, cond-same}
+use Rattle.rules.proofs.Rows.{none-found, nth-at, nth-past, route-before, route-first}
+use Rattle.rules.proofs.RouteFault.{NoneFound, found-start, found-turn, found-here, found-done, first-same, refused-nowhere, refused-there, found-tells}
 use Rattle.rules.specs.declared.TrainPlan.{TrainPlan}
-use Rattle.rules.specs.Rows.{outside, anyOf}
+use Rattle.rules.specs.declared.Refusal.{Refusal}
+use Rattle.rules.specs.Rows.{outside, anyOf, first}
 use Rattle.rules.specs.Track.{noTrainPlan, routeAt, Track, nearBox, farBox, follows}
-use Rattle.rules.specs.Placing.{routeShapeFault, routePlaceFault, routeFault, startFault, shapeFaultAt, routeFaultAt}
+use Rattle.rules.specs.Placing.{withoutPlace, routeShapeFault, placeRows, routePlaceCode, routeFault, startFault, shapeFaultAt, routeFaultAt, routesFault, placingRows, tellsPlace, refusalBy}
 
 -- What code 10 says of the train with index i; r is what a function answered for it, and v what a branch found.
 pub shape-answer : (trains : List TrainPlan) (i : ℕ) (r v : Bool)
@@ -36,43 +39,49 @@ module _ (k : ℕ) (trains : List TrainPlan) (sized : length trains ≡ 16) wher
         | no l ↦ omega arith
       ]
 
--- The segment at the place with index p of train i's route.
-place-at : (routes : List ℕ) (i p : ℕ) → 1 ≤ i → p < 64 → routeAt routes i (p + 1) ≡ getD routes (64 * (i - 1) + p) 0
-place-at routes i p l h = route-index routes i (p + 1) _ l (omega arith) (omega arith) (omega arith)
+-- A line has the routes of trains 1 to 16.
+pub train-none : (routes : List ℕ) (i p : ℕ) → i ≡ 0 → 0 ≡ routeAt routes i p
+unfolding routeAt
+train-none routes i p e = rw e
 
--- Code 11 of a route with more than 64 places: there is no place 65.
-pub faulty-past : (n : ℕ) (track : Track) (routes : List ℕ) (i d r : ℕ) → 64 < r → true ≡ routeFault n track routes i d r
-unfolding routeFault routePlaceFault outside
-faulty-past n track routes i d r l =
-    none-found r (routePlaceFault n track routes i d) 64 l (rw (route-past routes i 65 (omega arith)) (search tests))
+pub train-past : (routes : List ℕ) (i p : ℕ) → length routes ≡ 1024 → 16 < i → 0 ≡ routeAt routes i p
+unfolding routeAt
+train-past routes zero p e h = refl
+train-past routes (suc i) zero e h = refl
+train-past routes (suc i) (suc p) e h =
+    let none : getD routes (64 * i + p) 0 ≡ 0 = List·getD-eq-default routes 0 (omega arith) in
+    rw none (sym (cond-same (ltb p 64) 0))
 
--- Code 11 at the place with index p of train i's route: an outside segment; one that does not follow the one before; and neither.
-module _ (n : ℕ) (track : Track) (routes : List ℕ) (i d p : ℕ) (low : 1 ≤ i) (high : p < 64) where
-  pub faulty-outside : outside n (getD routes (64 * (i - 1) + p) 0) ≡ true → routePlaceFault n track routes i d (p + 1) ≡ true
-  unfolding routePlaceFault
-  faulty-outside e = rw (place-at routes i p low high) (search tests)
+-- The search along a route has found nothing at its first p places, and has the segment at the last of them in hand.
+abbrev pub routePlace : ℕ → Track → List ℕ → ℕ → ℕ → ℕ → Refusal
+routePlace n track routes i d p = record { code = routePlaceCode n track routes i d p; train = i; place = p }
 
-  pub sound-first : outside n (getD routes (64 * (i - 1) + p) 0) ≡ false → p ≤ 0 → routePlaceFault n track routes i d (p + 1) ≡ false
-  unfolding routePlaceFault
-  sound-first e l = let h : p + 1 ≤ 1 = omega arith in rw (place-at routes i p low high) (search tests)
+pub record Searched (n : ℕ) (track : Track) (routes : List ℕ) (i d r before p : ℕ) : Type 0 where
+  pub yet : NoneFound r (routePlace n track routes i d) p
+  pub last : before ≡ routeAt routes i p
 
-  abbrev following : Bool
-  following = follows track d (getD routes (64 * (i - 1) + p - 1) 0) (getD routes (64 * (i - 1) + p) 0)
+module _ (n : ℕ) (track : Track) (routes : List ℕ) (i d r : ℕ) where
+  pub searched-start : Searched n track routes i d r 0 0
+  searched-start = record { yet = found-start r _; last = sym (route-before routes i) }
 
-  faulty-next : 0 < p → routePlaceFault n track routes i d (p + 1) ≡ (outside n (getD routes (64 * (i - 1) + p) 0) || (ltb 1 (p + 1) && not following))
-  unfolding routePlaceFault
-  faulty-next l =
-      let e : p + 1 - 1 ≡ p - 1 + 1 = omega arith in
-      let f : 64 * (i - 1) + (p - 1) ≡ 64 * (i - 1) + p - 1 = omega arith in
-      rw (place-at routes i p low high, e, place-at routes i (p - 1) low (omega arith), f)
+  module _ (before p s code : ℕ) (h : Searched n track routes i d r before p) (l : p < r) (here : s ≡ routeAt routes i (p + 1))
+      (e : code ≡ first (placeRows n track d (p + 1) before s)) where
+    place-code : code ≡ routePlaceCode n track routes i d (p + 1)
+    unfolding routePlaceCode
+    place-code = let back : p + 1 - 1 ≡ p = omega arith in rw (back, ← h .last, ← here) e
 
-  pub faulty-apart : 0 < p → following ≡ false → routePlaceFault n track routes i d (p + 1) ≡ true
-  faulty-apart l e = let h : 1 < p + 1 = omega arith in rw (faulty-next l) (search tests)
+    pub searched-turn : code ≡ 0 → Searched n track routes i d r s (p + 1)
+    searched-turn z = record { yet = found-turn r _ p (h .yet) l (sym place-code ∙ z); last = here }
 
-  pub sound-next : outside n (getD routes (64 * (i - 1) + p) 0) ≡ false → 0 < p → following ≡ true → routePlaceFault n track routes i d (p + 1) ≡ false
-  sound-next e l f = rw (faulty-next l) (search tests)
+    pub searched-here : code ≢ 0 → record { code = code; train = i; place = p + 1 } ≡ routeFault n track routes i d r
+    unfolding routeFault
+    searched-here z = rw place-code (found-here r _ p (h .yet) l (λ y. z (place-code ∙ y)))
 
--- Code 11 in a direction is code 11 in direction 0 on the track with the near ends for A ends and the far ends for B ends.
+  pub searched-done : (before p : ℕ) (x : Refusal) → Searched n track routes i d r before p → r ≤ p → x ≡ withoutPlace 0 → x ≡ routeFault n track routes i d r
+  unfolding routeFault
+  searched-done before p x h l e = e ∙ found-done r _ p (h .yet) l
+
+-- Codes 11 and 28 in a direction are those in direction 0 on the track with the near ends for A ends and the far ends for B ends.
 abbrev turned : Track → Track
 turned track = record { endA = track .endB; endB = track .endA }
 
@@ -80,28 +89,33 @@ module _ (n : ℕ) (track : Track) (routes : List ℕ) (i d r : ℕ) where
   pub route-forth : d ≡ 0 → routeFault n track routes i 0 r ≡ routeFault n track routes i d r
   route-forth e = rw e
 
-  place-back : (d ≡ 0 → ⊥) → (p : ℕ) → routePlaceFault n (turned track) routes i 0 p ≡ routePlaceFault n track routes i d p
-  unfolding routePlaceFault follows farBox nearBox
+  place-back : (d ≡ 0 → ⊥) → (p : ℕ) → routePlaceCode n (turned track) routes i 0 p ≡ routePlaceCode n track routes i d p
+  unfolding routePlaceCode placeRows follows farBox nearBox
   place-back e p = rw (ne-eqb d 0 e)
 
   pub route-back : (d ≡ 0 → ⊥) → routeFault n (turned track) routes i 0 r ≡ routeFault n track routes i d r
   unfolding routeFault
-  route-back e = λ j. anyOf r (λ p. place-back e p j)
+  route-back e = first-same _ _ r λ p l h. rw (place-back e p)
 
--- A train of 1 to 16 has a route: code 11 is all that is answered for it.
-pub route-there : (i : ℕ) (r f : Bool) → (i ≡ 0 → ⊥) → i ≤ 16 → r ≡ f → r ≡ (outside 16 i || f)
-unfolding outside
-route-there i r f z l e = search tests
+-- The search through the routes of all trains: r is what a function answered for the route of the train with index i.
+module _ (n : ℕ) (track : Track) (trains : List TrainPlan) (routes : List ℕ) (k i : ℕ) (r : Refusal)
+    (yet : NoneFound k (routeFaultAt n track trains routes) i) (l : i < k)
+    (e : r ≡ routeFault n track routes (i + 1) (getD trains i noTrainPlan .direction) (getD trains i noTrainPlan .length)) where
+  route-answer : r ≡ routeFaultAt n track trains routes (i + 1)
+  unfolding routeFaultAt
+  route-answer = rw nth-at e
 
-pub route-told : (i : ℕ) (r f v : Bool) → 1 ≤ i → i ≤ 16 → r ≡ (outside 16 i || f) → r ≡ v → f ≡ v
-route-told i r f v low high e g = rw (outside-false-iff 16 i .1 (low, high)) at (answered _ _ _ e g)
+  pub routes-turn : r .code ≡ 0 → NoneFound k (routeFaultAt n track trains routes) (i + 1)
+  routes-turn z = found-turn k _ i yet l (ap (λ (r : Refusal). r .code) (sym route-answer) ∙ z)
 
--- What code 11 says of the train with index i; r is what a function answered for it, and v what a branch found.
-pub route-answer : (n : ℕ) (track : Track) (trains : List TrainPlan) (routes : List ℕ) (i k : ℕ) (r v : Bool) → i < k → k ≤ 16
-    → r ≡ (outside 16 (i + 1) || routeFault n track routes (i + 1) (getD trains i noTrainPlan .direction) (getD trains i noTrainPlan .length))
-    → r ≡ v → routeFaultAt n track trains routes (i + 1) ≡ v
-unfolding routeFaultAt
-route-answer n track trains routes i k r v l h e f = rw nth-at (route-told (i + 1) r _ v (omega arith) (omega arith) e f)
+  pub routes-here : r .code ≢ 0 → r ≡ routesFault n k track trains routes
+  unfolding routesFault
+  routes-here z = route-answer ∙ found-here k _ i yet l (λ y. z (ap (λ (r : Refusal). r .code) route-answer ∙ y))
+
+pub routes-done : (n : ℕ) (track : Track) (trains : List TrainPlan) (routes : List ℕ) (k i : ℕ) (r : Refusal)
+    → NoneFound k (routeFaultAt n track trains routes) i → k ≤ i → r ≡ withoutPlace 0 → r ≡ routesFault n k track trains routes
+unfolding routesFault
+routes-done n track trains routes k i r yet l e = e ∙ found-done k _ i yet l
 
 -- Code 12 at the trains with indices i and j.
 module _ (routes : List ℕ) (i j : ℕ) where
@@ -115,3 +129,35 @@ module _ (routes : List ℕ) (i j : ℕ) where
 pub start-before : (routes : List ℕ) (i : ℕ) (r : Bool) → r ≡ anyOf i (λ j. eqb (routeAt routes (i + 1) 1) (routeAt routes j 1)) → r ≡ startFault routes (i + 1)
 unfolding startFault
 start-before routes i r e = let h : i + 1 - 1 ≡ i = omega arith in rw h e
+
+-- Why a table with these trains is refused, by the tests that led there; x is what a function answered.
+module _ (n k : ℕ) (track : Track) (trains : List TrainPlan) (routes : List ℕ) (x : Refusal) where
+  abbrev Refused : Type 0
+  Refused = x ≡ refusalBy (first (placingRows n k track trains routes)) (routesFault n k track trains routes)
+
+  pub refused-10 : x ≡ withoutPlace 10 → anyOf k (shapeFaultAt trains) ≡ true → Refused
+  unfolding placingRows tellsPlace
+  refused-10 e shape = refused-nowhere _ _ x 10 e refl (search tests)
+
+  module _ (y : Refusal) (e : y ≡ routesFault n k track trains routes) (shape : anyOf k (shapeFaultAt trains) ≡ false) where
+    found-code : y .code ≡ routesFault n k track trains routes .code
+    found-code = ap (λ (r : Refusal). r .code) e
+
+    pub refused-found : x ≡ y → y .code ≢ 0 → Refused
+    unfolding placingRows
+    refused-found is some =
+        let fault = routesFault n k track trains routes in
+        let other : fault .code ≢ 0 = λ z. some (found-code ∙ z) in
+        refused-there _ fault x (is ∙ e) (found-tells n k track trains routes other) (search tests)
+
+    module _ (none : y .code ≡ 0) where
+      sound : routesFault n k track trains routes .code ≡ 0
+      sound = sym found-code ∙ none
+
+      pub refused-12 : x ≡ withoutPlace 12 → anyOf k (startFault routes) ≡ true → Refused
+      unfolding placingRows tellsPlace
+      refused-12 is start = refused-nowhere _ _ x 12 is refl (rw sound (search tests))
+
+      pub refused-0 : x ≡ withoutPlace 0 → anyOf k (startFault routes) ≡ false → Refused
+      unfolding placingRows tellsPlace first
+      refused-0 is start = refused-nowhere _ _ x 0 is refl (rw sound (search tests))

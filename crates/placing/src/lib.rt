@@ -1,11 +1,22 @@
-// The trains of a table: codes 10, 11 and 12, the shape of routes, their segments, and the first segments of trains.
+// The trains of a table: code 10, the shape of routes; 11 and 28, their segments; and 12, the first segments of trains.
+use rules::Refusal;
 use rules::TrainPlan;
 ghost use mathlib.Core.Path.{_≡_};
-ghost use mathlib.Core.Bool.{_||_};
 ghost use Prim.Native.Nat.{_+_, _≤_};
-ghost use Rattle.rules.specs.Rows.{first, anyOf, outside};
-ghost use Rattle.rules.specs.Track.{trackIn, follows};
-ghost use Rattle.rules.specs.Placing.{routeShapeFault, routeFault, startFault, shapeFaultAt, routeFaultAt, placingRows};
+ghost use Rattle.rules.specs.Rows.{first, anyOf};
+ghost use Rattle.rules.specs.Track.{routeAt, trackIn, follows};
+ghost use Rattle.rules.specs.Placing.{withoutPlace, routeShapeFault, placeRows, routeFault, startFault, shapeFaultAt, routesFault, placingRows, refusalBy};
+
+// A refusal by a code that is about no place of a route; with code 0 it is none.
+pub fn without_place(code: u8) -> Refusal
+    ensures { λ r. ⌜ r ≡ withoutPlace code ⌝ }
+{
+    Refusal {
+        code,
+        train: 0,
+        place: 0,
+    }
+}
 
 // Code 10 on a train's direction and route length.
 pub fn shape_faulty(d: u8, r: u8) -> bool
@@ -44,45 +55,72 @@ fn follows(before: u8, s: u8, near: &[u8; 256], far: &[u8; 256]) -> bool
     far[before as usize] == near[s as usize]
 }
 
-// Code 11 of a train's route of length r. The near ends stand for A ends and the far ends for B ends, so that the direction is 0. A
-// longer route than 64 is at fault at place 65, which reads as segment 0.
-fn route_breaks(
+// The segment at place p, counted from 1, of the route of the train with this number; 0 where there is none.
+pub fn segment_at(routes: &[u8; 1024], number: u8, p: usize) -> u8
+    ensures { λ s. ⌜ s ≡ routeAt (now (routes .entry)) number p ⌝ }
+{
+    // As a slice, whose length the proof knows.
+    let places: &[u8] = routes;
+    if number == 0 {
+        return 0;
+    }
+    if number > 16 {
+        return 0;
+    }
+    if p == 0 {
+        return 0;
+    }
+    if p > 64 {
+        return 0;
+    }
+    let start = 64 * (number - 1) as usize;
+    places[start + p - 1]
+}
+
+// Codes 11 and 28 at a place of a route, by the segment there and the one before it. The near ends stand for A ends and the far ends
+// for B ends, so that the direction is 0.
+fn place_code(place: u8, before: u8, s: u8, n: u8, near: &[u8; 256], far: &[u8; 256]) -> u8
+    ensures { λ r. ⌜ r ≡ first (placeRows n (trackIn (now (near .entry)) (now (far .entry))) 0 place before s) ⌝ }
+{
+    if network::outside(n, s) {
+        return 11;
+    }
+    if place > 1 {
+        if !follows(before, s, near, far) {
+            return 28;
+        }
+    }
+    0
+}
+
+// The first place at fault of a train's route of length r, with the near ends for A ends and the far ends for B ends.
+fn first_fault(
     routes: &[u8; 1024],
     train: u8,
     r: u8,
     n: u8,
     near: &[u8; 256],
     far: &[u8; 256],
-) -> bool
-    requires { ⌜ 1 ≤ train ⌝ }
-    requires { ⌜ train ≤ 16 ⌝ }
+) -> Refusal
     ensures { λ x. ⌜ x ≡ routeFault n (trackIn (now (near .entry)) (now (far .entry))) (now (routes .entry)) train 0 r ⌝ }
 {
-    if r > 64 {
-        return true;
-    }
-    let start = 64 * (train - 1) as usize;
-    let length = r as usize;
-    let mut p: usize = 0;
-    // Place p + 1 is looked at, up to the last.
-    while p + 1 <= length {
-        let s = routes[start + p];
-        if network::outside(n, s) {
-            return true;
+    let mut before: u8 = 0;
+    let mut place: u8 = 0;
+    while place < r {
+        place += 1;
+        let s = segment_at(routes, train, place as usize);
+        let code = place_code(place, before, s, n, near, far);
+        if code != 0 {
+            return Refusal { code, train, place };
         }
-        if p > 0 {
-            if !follows(routes[start + p - 1], s, near, far) {
-                return true;
-            }
-        }
-        p += 1;
+        before = s;
     }
-    false
+    without_place(0)
 }
 
-// Code 11 on a train's route of direction d and length r, by the boxes at the A ends and at the B ends of segments. There is no
-// route of a train outside 1 to 16.
-pub fn route_faulty(
+// Codes 11 and 28 on a train's route of direction d and length r, by the boxes at the A ends and at the B ends of segments: the
+// first place at fault.
+pub fn route_fault(
     routes: &[u8; 1024],
     train: u8,
     d: u8,
@@ -90,43 +128,38 @@ pub fn route_faulty(
     n: u8,
     a: &[u8; 256],
     b: &[u8; 256],
-) -> bool
-    ensures { λ x. ⌜ x ≡ (outside 16 train || routeFault n (trackIn (now (a .entry)) (now (b .entry))) (now (routes .entry)) train d r) ⌝ }
+) -> Refusal
+    ensures { λ x. ⌜ x ≡ routeFault n (trackIn (now (a .entry)) (now (b .entry))) (now (routes .entry)) train d r ⌝ }
 {
-    if train == 0 {
-        return true;
-    }
-    if train > 16 {
-        return true;
-    }
     if d == 0 {
-        return route_breaks(routes, train, r, n, a, b);
+        return first_fault(routes, train, r, n, a, b);
     }
-    route_breaks(routes, train, r, n, b, a)
+    first_fault(routes, train, r, n, b, a)
 }
 
-// Code 11: some route has a segment 0 or above n, or one that does not follow the one before.
-fn some_route_faulty(
+// Codes 11 and 28 in one search through the routes of all trains: the first place at fault.
+fn routes_fault(
     n: u8,
     k: u8,
     trains: [TrainPlan; 16],
     routes: &[u8; 1024],
     a: &[u8; 256],
     b: &[u8; 256],
-) -> bool
+) -> Refusal
     requires { ⌜ k ≤ 16 ⌝ }
-    ensures { λ r. ⌜ r ≡ anyOf k (routeFaultAt n (trackIn (now (a .entry)) (now (b .entry))) trains (now (routes .entry))) ⌝ }
+    ensures { λ r. ⌜ r ≡ routesFault n k (trackIn (now (a .entry)) (now (b .entry))) trains (now (routes .entry)) ⌝ }
 {
     let mut number: u8 = 0;
     while number < k {
         let i = number as usize;
         number += 1;
         let p = trains[i];
-        if route_faulty(routes, number, p.direction, p.length, n, a, b) {
-            return true;
+        let fault = route_fault(routes, number, p.direction, p.length, n, a, b);
+        if fault.code != 0 {
+            return fault;
         }
     }
-    false
+    without_place(0)
 }
 
 // Code 12 at the train with this index: a train before it begins with the same segment.
@@ -161,25 +194,27 @@ fn some_start_shared(k: u8, routes: &[u8; 1024]) -> bool
     false
 }
 
-// Codes 10 to 12 of k trains on n segments, by the boxes at the A ends and at the B ends of segments.
-pub fn placing_code(
+// Codes 10 to 12 and 28 of k trains on n segments, by the boxes at the A ends and at the B ends of segments: why a table with these
+// trains is refused.
+pub fn placing_refusal(
     n: u8,
     k: u8,
     trains: [TrainPlan; 16],
     routes: &[u8; 1024],
     a: &[u8; 256],
     b: &[u8; 256],
-) -> u8
-    ensures { λ r. ⌜ r ≡ first (placingRows n k (trackIn (now (a .entry)) (now (b .entry))) trains (now (routes .entry))) ⌝ }
+) -> Refusal
+    ensures { λ r. ⌜ r ≡ refusalBy (first (placingRows n k (trackIn (now (a .entry)) (now (b .entry))) trains (now (routes .entry)))) (routesFault n k (trackIn (now (a .entry)) (now (b .entry))) trains (now (routes .entry))) ⌝ }
 {
     if some_shape_faulty(k, trains) {
-        return 10;
+        return without_place(10);
     }
-    if some_route_faulty(n, k, trains, routes, a, b) {
-        return 11;
+    let fault = routes_fault(n, k, trains, routes, a, b);
+    if fault.code != 0 {
+        return fault;
     }
     if some_start_shared(k, routes) {
-        return 12;
+        return without_place(12);
     }
-    0
+    without_place(0)
 }

@@ -11,11 +11,13 @@ use lib.Dec.{leb}
 use lib.ListN.{length, getD, set, take, length-append}
 use lib.Seq.{take-suc}
 use Rattle.rules.specs.declared.Line.{Line}
+use Rattle.rules.specs.declared.Refusal.{Refusal}
 use Rattle.rules.specs.Rows.{joinOf}
 use Rattle.rules.specs.Track.{routeAt}
 use Rattle.rules.specs.Line.{noBox, noTrain, boxAt, trainAt, aroundOn, around}
+use Rattle.rules.specs.Placing.{tellsPlace}
 use Rattle.rules.specs.Run.{stepCount}
-use Rattle.rules.specs.Printout.{bytesOf, decimalIn, decimal, textLine, stepLine, stepLineOf, tailOf, trainLine, bit, boxLine, lineText}
+use Rattle.rules.specs.Printout.{bytesOf, decimalIn, decimal, textLine, stepLine, stepLineOf, tailOf, trainLine, bit, boxLine, lineText, fileLine}
 use Rattle.rules.proofs.Rows.{nth-at}
 use Rattle.writing.specs.Written.{Written}
 use Rattle.writing.proofs.Laws.{written-append, written-join-none, written-join}
@@ -197,9 +199,19 @@ pub steps-counted : (bytes : List ℕ) → stepCount bytes ≡ (length bytes + 2
 unfolding stepCount
 steps-counted bytes = refl
 
--- The line of a refused file, and the text of a run of n steps, without and with its last line.
-pub short-file : (code : ℕ) {d o p : List ℕ} {at a b : ℕ} → Written d at (bytesOf "file ") a o → Short 4 o a (decimal code ++ (10 ∷ [])) b p → Short 18 d at (textLine (bytesOf "file" ∷ decimal code ∷ [])) b p
-short-file code a b = short-more (omega arith) (short-word (bytesOf "file") (decimal code) [] (short-whole a) (short-last (decimal code) b))
+-- The line of a refused file, without and with a place; and the text of a run of n steps, without and with its last line.
+pub short-file : (x : Refusal) {d o p : List ℕ} {at a b : ℕ} → tellsPlace (x .code) ≡ false → Written d at (bytesOf "file ") a o
+    → Short 4 o a (decimal (x .code) ++ (10 ∷ [])) b p → Short 18 d at (fileLine x) b p
+unfolding fileLine
+short-file x e a b =
+    rw e (short-more (omega arith) (short-word (bytesOf "file") (decimal (x .code)) [] (short-whole a) (short-last (decimal (x .code)) b)))
+
+pub short-file-place : (x : Refusal) {d o p q r : List ℕ} {at a b c e : ℕ} → tellsPlace (x .code) ≡ true → Written d at (bytesOf "file ") a o
+    → Short 4 o a (decimal (x .code) ++ (32 ∷ [])) b p → Short 4 p b (decimal (x .train) ++ (32 ∷ [])) c q
+    → Short 4 q c (decimal (x .place) ++ (10 ∷ [])) e r → Short 18 d at (fileLine x) e r
+unfolding fileLine
+short-file-place x h s t u v =
+    rw h (short-more (omega arith) (four-words (bytesOf "file") (decimal (x .code)) (decimal (x .train)) (decimal (x .place)) (short-whole s) t u v))
 
 pub short-run : (n : ℕ) {d o p s l : List ℕ} {at a b : ℕ} → Short (18 * n) d at s a o → Short 2016 o a l b p → Short (18 * (n + 113)) d at (s ++ l ++ []) b p
 short-run n a b = rw append-nil (short-more (omega arith) (short-append a b))

@@ -11,15 +11,17 @@ use lib.Dec.{ltb}
 use lib.ListN.{length, getD, take, drop, drop-of-length-le, List·getD-append}
 use lib.Seq.{take-all, length-take-le, drop-cons}
 use Rattle.rules.specs.declared.Line.{Line}
-use Rattle.rules.specs.declared.Outcome.{Outcome}
+use Rattle.rules.specs.declared.Refusal.{Refusal}
+use Rattle.rules.specs.declared.FileOutcome.{FileOutcome}
 use Rattle.rules.specs.Rows.{first, joinOf}
-use Rattle.rules.specs.File.{fileCode, decode}
+use Rattle.rules.specs.Placing.{refusalBy}
+use Rattle.rules.specs.File.{fileCode, fileRefusal, decode}
 use Rattle.rules.specs.Line.{read, startLine}
 use Rattle.rules.specs.Steps.{step}
 use Rattle.rules.specs.Record.{checkedStep}
 use Rattle.rules.specs.History.{Call, lineAfter, events}
-use Rattle.rules.specs.Run.{wholeSteps, stepCount, answersOf, partialAnswer, answersFrom, runCode, run, answered, SafeRun}
-use Rattle.rules.specs.Printout.{bytesOf, decimal, textLine, mostSteps, stepLine, stepLineOf, lineText, moreLine, takenOf, runText, printoutUpTo, printout, textRoom, printCode, printLength, printedText, printedAnswers}
+use Rattle.rules.specs.Run.{wholeSteps, stepCount, answersOf, partialAnswer, answersFrom, runCode, runRefusal, run, answered, SafeRun}
+use Rattle.rules.specs.Printout.{bytesOf, textLine, mostSteps, stepLine, stepLineOf, lineText, moreLine, takenOf, runText, fileLine, printoutUpTo, printout, textRoom, printCode, printLength, printedText, printedAnswers}
 use Rattle.rules.proofs.Rows.{join-same}
 use Rattle.rules.proofs.Files.{file-iff}
 use Rattle.rules.proofs.Runs.{answers-length}
@@ -90,14 +92,14 @@ module _ (input answers text : List ℕ) where
   enough h k = rw (le-ltb _ _ h, le-ltb _ _ k)
 
 -- What is printed for a refused file, and for a run.
-file-text : (file input : List ℕ) → fileCode file ≢ 0 → printout file input ≡ textLine (bytesOf "file" ∷ decimal (fileCode file) ∷ [])
-unfolding printout printoutUpTo read
-file-text file input h = rw (ne-eqb (fileCode file) 0 h, ne-eqb (fileCode file) 0 h)
+file-text : (file input : List ℕ) → fileCode file ≢ 0 → printout file input ≡ fileLine (fileRefusal file)
+unfolding printout printoutUpTo read fileRefusal refusalBy
+file-text file input h = rw (ne-eqb (fileCode file) 0 h)
 
 run-text : (file input answers : List ℕ) {l : Line} {a : List ℕ} → fileCode file ≡ 0 → SafeRun file (takenOf mostSteps input) l answers a
     → printout file input
     ≡ joinOf (stepCount (takenOf mostSteps input)) (stepLineOf (takenOf mostSteps input) a) ++ lineText l ++ cond (ltb (3 * mostSteps) (length input)) (textLine (bytesOf "more" ∷ [])) []
-unfolding printout printoutUpTo read runText answersFrom
+unfolding printout printoutUpTo read fileRefusal refusalBy runText answersFrom
 run-text file input answers {l} {a} e safe =
     let steps = takenOf mostSteps input in
     let start = startLine (decode file) in
@@ -105,18 +107,28 @@ run-text file input answers {l} {a} e safe =
     (ap (λ (w : List ℕ). w ++ lineText (lineAfter step start (wholeSteps steps)) ++ moreLine (drop (3 * mostSteps) input))
     (step-lines-same steps (answersOf (events step start (wholeSteps steps)) ++ partialAnswer steps) (drop (stepCount steps) answers) (answers-length step start steps)))
 
--- A run with room for its answers has the file's code, and the line of an accepted table is within its limits.
-run-file-code : (call : Call) (file steps buffer : List ℕ) → stepCount steps ≤ length buffer → run call file steps buffer .code ≡ fileCode file
-unfolding run runCode first
-run-file-code call file steps buffer h =
+-- A run with room for its answers is refused as its file is, and the line of an accepted table is within its limits.
+run-file-code : (file steps buffer : List ℕ) → stepCount steps ≤ length buffer → runCode file steps buffer ≡ fileCode file
+unfolding runCode first
+run-file-code file steps buffer h =
     elim (ℕ-discrete (fileCode file) 0) [
       | yes e ↦ rw (e, le-ltb _ _ h)
-      | no e ↦ rw (ne-eqb (fileCode file) 0 e, ne-eqb (fileCode file) 0 e)
+      | no e ↦ rw (ne-eqb (fileCode file) 0 e)
     ]
 
-pub run-code-is : (file input answers : List ℕ) {end : ℕ} {r : Outcome} → Taken input end → (end + 2) / 3 ≤ length answers → r ≡ run checkedStep file (take end input) answers → r .code ≡ fileCode file
-run-code-is file input answers {end} t h e =
-    ap (λ (o : Outcome). o .code) e ∙ run-file-code checkedStep file (take end input) answers (omega (arith, t .count))
+run-file-refusal : (call : Call) (file steps buffer : List ℕ) → stepCount steps ≤ length buffer → run call file steps buffer .refusal ≡ fileRefusal file
+unfolding run runRefusal fileRefusal
+run-file-refusal call file steps buffer h = rw (run-file-code file steps buffer h)
+
+pub run-refusal-is : (file input answers : List ℕ) {end : ℕ} {r : FileOutcome} → Taken input end → (end + 2) / 3 ≤ length answers
+    → r ≡ run checkedStep file (take end input) answers → r .refusal ≡ fileRefusal file
+run-refusal-is file input answers {end} t h e =
+    ap (λ (o : FileOutcome). o .refusal) e ∙ run-file-refusal checkedStep file (take end input) answers (omega (arith, t .count))
+
+pub run-code-is : (file input answers : List ℕ) {end : ℕ} {r : FileOutcome} → Taken input end → (end + 2) / 3 ≤ length answers
+    → r ≡ run checkedStep file (take end input) answers → r .refusal .code ≡ fileCode file
+unfolding fileRefusal refusalBy
+run-code-is file input answers t h e = ap (λ (x : Refusal). x .code) (run-refusal-is file input answers t h e)
 
 pub run-limits : {file steps buffer a : List ℕ} {l : Line} → fileCode file ≡ 0 → SafeRun file steps l buffer a → (l .table .k ≤ 16) × (l .table .m ≤ 96)
 run-limits {file} e safe =
@@ -154,16 +166,17 @@ module _ (file input answers text : List ℕ) {end : ℕ} (t : Taken input end) 
         rw (enough input answers text (omega (arith, counted)) (omega (arith, counted)))
         (refl, (put .written .next ∙ omega arith, (written-whole (put .written) size, e)))
 
-    module _ {r : Outcome} (e : r ≡ run checkedStep file (take end input) answers) where
-      code-is : r .code ≡ fileCode file
+    module _ {r : FileOutcome} (e : r ≡ run checkedStep file (take end input) answers) where
+      code-is : r .refusal .code ≡ fileCode file
       code-is = run-code-is file input answers t h e
 
-      pub file-printed : {j : ℕ} {o a : List ℕ} → r .code ≢ 0 → a ≡ answered checkedStep file (take end input) answers
-          → Short 18 text 0 (textLine (bytesOf "file" ∷ decimal (r .code) ∷ [])) j o → Promised 0 j o a
+      pub file-printed : {j : ℕ} {o a : List ℕ} → r .refusal .code ≢ 0 → a ≡ answered checkedStep file (take end input) answers
+          → Short 18 text 0 (fileLine (r .refusal)) j o → Promised 0 j o a
       file-printed n f put =
-          printed 18 (omega arith) (rw (file-text file input (rw code-is at n), sym code-is) put) (rw (t .part) at f)
+          let same = run-refusal-is file input answers t h e in
+          printed 18 (omega arith) (rw (file-text file input (rw code-is at n), sym same) put) (rw (t .part) at f)
 
-      pub run-printed : {j : ℕ} {o a : List ℕ} → r .code ≡ 0 → a ≡ answered checkedStep file (take end input) answers
+      pub run-printed : {j : ℕ} {o a : List ℕ} → r .refusal .code ≡ 0 → a ≡ answered checkedStep file (take end input) answers
           → SafeRun file (take end input) (r .line) answers a
           → Short (18 * (stepCount (take end input) + 113)) text 0
           (joinOf (stepCount (take end input)) (stepLineOf (take end input) a) ++ lineText (r .line) ++ cond (ltb (3 * mostSteps) (length input)) (textLine (bytesOf "more" ∷ [])) [])

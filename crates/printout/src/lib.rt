@@ -51,10 +51,10 @@ pub fn print(file: &[u8], input: &[u8], answers: &mut [u8], text: &mut [u8]) -> 
     }
     let taken = &input[..end];
     let after = engine::run(file, taken, answers);
-    if after.code != 0 {
+    if after.refusal.code != 0 {
         return Printed {
             code: 0,
-            length: lines::put_file_line(after.code, text),
+            length: lines::put_file_line(after.refusal, text),
         };
     }
     let line = after.line;

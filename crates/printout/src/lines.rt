@@ -1,9 +1,9 @@
 // Lines of the text, each of at most 18 bytes, and the lines of all steps, trains and boxes, one after the other.
 use crate::words;
 use rules::Line;
+use rules::Refusal;
 use rules::SwitchBox;
 use rules::Train;
-use traincomputer::sight;
 ghost use mathlib.Core.Path.{_≡_};
 ghost use Prim.Native.Nat.{_+_, _-_, _*_, _≤_, _<_};
 ghost use mathlib.Core.Bool.{cond};
@@ -12,8 +12,9 @@ ghost use lib.Dec.{leb};
 ghost use lib.ListN.{length, getD};
 ghost use Rattle.rules.specs.Rows.{joinOf};
 ghost use Rattle.rules.specs.Track.{routeAt};
+ghost use Rattle.rules.specs.Placing.{tellsPlace};
 ghost use Rattle.rules.specs.Run.{stepCount};
-ghost use Rattle.rules.specs.Printout.{bytesOf, decimal, textLine, stepLineOf, trainLine, bit, boxLine, lineText};
+ghost use Rattle.rules.specs.Printout.{bytesOf, decimal, textLine, stepLineOf, trainLine, bit, boxLine, lineText, fileLine};
 ghost use Rattle.printout.specs.Short.{Short};
 
 // The byte at place i, 0 where there is none.
@@ -67,7 +68,7 @@ fn tail(routes: &[u8; 1024], number: u8, place: u8, covered: u8) -> u8
     if covered > place {
         return 0;
     }
-    sight::segment_at(routes, number, (place - covered) as usize + 1)
+    placing::segment_at(routes, number, (place - covered) as usize + 1)
 }
 
 // The line of train i + 1, whose record this is.
@@ -77,7 +78,7 @@ fn put_train_line(r: Train, routes: &[u8; 1024], i: usize, text: &mut [u8], at: 
     ensures { λ j. ⌜ Short 18 (now (text .entry)) at (textLine (bytesOf "train" ∷ decimal (i + 1) ∷ decimal (routeAt (now (routes .entry)) (i + 1) (r .place)) ∷ decimal (cond (leb (r .covered) 1) 0 (routeAt (now (routes .entry)) (i + 1) (r .place + 1 - r .covered))) ∷ [])) j (now (text .exit)) ⌝ }
 {
     let number = (i + 1) as u8;
-    let front = sight::segment_at(routes, number, r.place as usize);
+    let front = placing::segment_at(routes, number, r.place as usize);
     let last = tail(routes, number, r.place, r.covered);
     let mut j = words::put_word(text, at, b"train ");
     j = words::put_number(text, j, number, b' ');
@@ -145,13 +146,28 @@ fn put_line_text(l: Line, text: &mut [u8], at: usize) -> usize
     put_box_lines(l, text, trains)
 }
 
-// The line of a refused file, at the front of the text.
-pub(crate) fn put_file_line(code: u8, text: &mut [u8]) -> usize
-    requires { ⌜ 18 ≤ length (now text) ⌝ }
-    ensures { λ r. ⌜ Short 18 (now (text .entry)) 0 (textLine (bytesOf "file" ∷ decimal code ∷ [])) r (now (text .exit)) ⌝ }
+// A code that is about a place of a route.
+fn tells_place(code: u8) -> bool
+    ensures { λ r. ⌜ r ≡ tellsPlace code ⌝ }
 {
-    let j = words::put_word(text, 0, b"file ");
-    words::put_number(text, j, code, b'\n')
+    if code == 11 {
+        return true;
+    }
+    code == 28
+}
+
+// The line of a refused file, at the front of the text: the code and, where it is about a place of a route, train and place.
+pub(crate) fn put_file_line(refusal: Refusal, text: &mut [u8]) -> usize
+    requires { ⌜ 18 ≤ length (now text) ⌝ }
+    ensures { λ r. ⌜ Short 18 (now (text .entry)) 0 (fileLine refusal) r (now (text .exit)) ⌝ }
+{
+    let mut j = words::put_word(text, 0, b"file ");
+    if !tells_place(refusal.code) {
+        return words::put_number(text, j, refusal.code, b'\n');
+    }
+    j = words::put_number(text, j, refusal.code, b' ');
+    j = words::put_number(text, j, refusal.train, b' ');
+    words::put_number(text, j, refusal.place, b'\n')
 }
 
 // The text of a run, at the front of the text: the lines of all steps, the line after them, and the last line where there are more bytes.

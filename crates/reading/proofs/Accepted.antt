@@ -1,11 +1,13 @@
 -- The line that is read from a file, by the file's code and table.
 use Prim.Native.Nat.{ℕ, _≤_}
-use mathlib.Core.Path.{_≡_, sym}
+use mathlib.Core.Path.{_≡_, sym, _∙_, ap}
 use mathlib.Core.List.{List}
 use borrow.Author.Tests.{eq-eqb, ne-eqb}
 use Rattle.rules.specs.declared.Table.{Table}
 use Rattle.rules.specs.declared.Line.{Line}
-use Rattle.rules.specs.File.{fileCode, decode}
+use Rattle.rules.specs.declared.Refusal.{Refusal}
+use Rattle.rules.specs.Placing.{refusalBy}
+use Rattle.rules.specs.File.{fileCode, fileRefusal, decode}
 use Rattle.rules.specs.Line.{emptyLine, startLine, read}
 use Rattle.tablefile.specs.Whole.{Whole}
 
@@ -14,11 +16,15 @@ module _ (bytes : List ℕ) where
   unfolding decode
   counted t w e = rw e (w .boxes, w .trains)
 
-  module _ (code : ℕ) (l : Line) (e : code ≡ fileCode bytes) where
-    pub read-refused : (code ≡ 0 → ⊥) → l ≡ emptyLine → record { code = code; line = l } ≡ read bytes
-    unfolding read
-    read-refused n f = rw (sym e, ne-eqb _ _ n, f)
+  module _ (x : Refusal) (l : Line) (e : x ≡ fileRefusal bytes) where
+    code-is : x .code ≡ fileCode bytes
+    unfolding fileRefusal refusalBy
+    code-is = ap (λ (r : Refusal). r .code) e
 
-    pub read-accepted : (t : Table) → code ≡ 0 → t ≡ decode bytes → l ≡ startLine t → record { code = 0; line = l } ≡ read bytes
+    pub read-refused : (x .code ≡ 0 → ⊥) → l ≡ emptyLine → record { refusal = x; line = l } ≡ read bytes
     unfolding read
-    read-accepted t z d f = rw (sym e, eq-eqb _ _ z, f, d)
+    read-refused n f = rw (e, ne-eqb (fileCode bytes) 0 (λ z. n (code-is ∙ z)), f)
+
+    pub read-accepted : (t : Table) → x .code ≡ 0 → t ≡ decode bytes → l ≡ startLine t → record { refusal = x; line = l } ≡ read bytes
+    unfolding read
+    read-accepted t z d f = rw (e, eq-eqb (fileCode bytes) 0 (sym code-is ∙ z), f, d)

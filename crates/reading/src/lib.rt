@@ -1,21 +1,21 @@
-// The reader: the bytes of a table file to the line at its start, or the first code of 1 to 12 that refuses it.
+// The reader: the bytes of a table file to the line at its start, or why the file is refused, by codes 1 to 12 and 28.
 pub mod empty;
 mod start;
 
+use rules::FileOutcome;
 use rules::Line;
-use rules::Outcome;
 use tablefile::head;
 ghost use mathlib.Core.Path.{_≡_};
 ghost use Rattle.rules.specs.Line.{read};
 
-// The reader: codes 1 to 12 in 01's order and the line at its start, or the empty record.
-pub fn read(bytes: &[u8]) -> Outcome
+// The reader: why a file is refused, by codes 1 to 12 and 28 in 01's order, and the line at its start or the empty record.
+pub fn read(bytes: &[u8]) -> FileOutcome
     ensures { λ r. ⌜ r ≡ read (now (bytes .entry)) ⌝ }
 {
     let early = head::early_code(bytes);
     if early != 0 {
-        return Outcome {
-            code: early,
+        return FileOutcome {
+            refusal: placing::without_place(early),
             line: empty::line(),
         };
     }
@@ -25,7 +25,7 @@ pub fn read(bytes: &[u8]) -> Outcome
     let train_plans = table.trains;
     let a = network::far_boxes(segments, 1);
     let b = network::far_boxes(segments, 0);
-    let code = layout::parts_code(
+    let refusal = layout::parts_refusal(
         table.version,
         table.n,
         table.m,
@@ -36,17 +36,17 @@ pub fn read(bytes: &[u8]) -> Outcome
         &a,
         &b,
     );
-    if code != 0 {
-        return Outcome {
-            code,
+    if refusal.code != 0 {
+        return FileOutcome {
+            refusal,
             line: empty::line(),
         };
     }
     let boxes = start::boxes(table.m, table.k, plans, train_plans, &table.routes, &a, &b);
     let trains = start::trains(table.k, train_plans);
     let routes = table.routes;
-    Outcome {
-        code: 0,
+    FileOutcome {
+        refusal,
         line: Line {
             table,
             boxes,

@@ -97,7 +97,7 @@ pub(crate) fn boxes(
         let i = number as usize;
         number += 1;
         let plan = trains[i];
-        let first = sight::segment_at(routes, number, 1);
+        let first = placing::segment_at(routes, number, 1);
         let ahead = sight::far(plan.direction, first, a, b);
         if !network::outside(m, ahead) {
             let at = (ahead - 1) as usize;

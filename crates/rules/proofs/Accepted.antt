@@ -1,4 +1,4 @@
--- What holds of an accepted table: the conditions of codes 3, 4 and 6 to 12 as facts with names.
+-- What holds of an accepted table: the conditions of codes 3, 4, 6 to 12 and 28 as facts with names.
 -- An end of a segment is named by a direction: the near end for a train of that direction.
 use Prim.Native.Nat.{ℕ, zero, suc, _+_, _-_, _≤_, _<_}
 use mathlib.Core.Path.{_≡_, refl, sym}
@@ -9,15 +9,17 @@ use lib.Dec.{eqb, leb, eqb·suc-zero}
 use native.Mathlib.Omega.{arith}
 use Rattle.rules.specs.declared.Table.{Table}
 use Rattle.rules.specs.declared.BoxPlan.{BoxPlan}
+use Rattle.rules.specs.declared.Refusal.{Refusal}
 use Rattle.rules.specs.Rows.{anyOf, nth, outside}
 use Rattle.rules.specs.Track.{noBoxPlan, planAt, trainPlanAt, routeAt, Track, trackOf, nearBox, farBox, follows, isPoint, positionFits}
 use Rattle.rules.specs.Loop.{SegmentOf, Loop}
 use Rattle.rules.specs.Network.{knownVersion, limitsFault, endsFault, placeFault, branchesFault, planFault, lists, hasEndA, hasEndB, listedFault, sideFault, boxFault, planFaultAt, boxFaultAt, unlistedFault, headRows, networkRows}
-use Rattle.rules.specs.Placing.{routeShapeFault, routePlaceFault, routeFault, startFault, shapeFaultAt, routeFaultAt, placingRows, partsCode, tableCode}
+use Rattle.rules.specs.Placing.{firstOf, routeShapeFault, placeRows, routePlaceCode, routeFault, startFault, shapeFaultAt, routeFaultAt, routesFault, placingRows, partsCode, tableCode}
 use Rattle.rules.specs.Safety.{TrainOf, onRoute}
-use Rattle.rules.proofs.Tests.{facts, or-true-iff, eqb-true-iff, leb-true-iff, outside-false-iff, first-none, first-zero-iff}
+use Rattle.rules.proofs.Tests.{facts, or-true-iff, eqb-true-iff, leb-true-iff, outside-false-iff, first-none, first-zero-iff, first-code-iff}
 use Rattle.rules.proofs.Rows.{any-false-iff, once}
 use Rattle.rules.proofs.Loop.{no-loop-iff}
+use Rattle.rules.proofs.RouteFault.{first-of-zero-iff}
 
 -- A number of one of m boxes.
 pub record BoxOf (m : ℕ) (b : ℕ) : Type 0 where
@@ -119,6 +121,9 @@ any-box-iff t f = simp any-false-iff (λ e b h. e b (h .low) (h .high), λ e b l
 
 pub any-train-iff : (t : Table) (f : ℕ → Bool) → (anyOf (t .k) f ≡ false) ↔ ((i : ℕ) → TrainOf t i → f i ≡ false)
 any-train-iff t f = simp any-false-iff (λ e i h. e i (h .low) (h .high), λ e i l h. e i (omega arith))
+
+first-train-iff : (t : Table) (f : ℕ → Refusal) → (firstOf (t .k) f .code ≡ 0) ↔ ((i : ℕ) → TrainOf t i → f i .code ≡ 0)
+first-train-iff t f = simp first-of-zero-iff (λ e i h. e i (h .low) (h .high), λ e i l h. e i (omega arith))
 
 -- What holds of A ends and of B ends holds of the ends of every direction.
 each-end : (track : Track) (P : (ℕ → ℕ) → Type 0) → P (track .endA) → P (track .endB) → (d : ℕ) → P (λ s. nearBox track d s)
@@ -259,12 +264,12 @@ unfolding unlistedFault nearBox
 listing-iff track plans s = simp facts
     (λ e. each-end track (λ f. lists (nth plans (f s) noBoxPlan) s ≡ true) (e .0) (e .1), λ h. (h 0, h 1))
 
--- Codes 10 and 11: the shape and the places of a route.
+-- Codes 10, 11 and 28: the shape and the places of a route.
 pub routed-iff : (n : ℕ) (track : Track) (routes : List ℕ) (i d r : ℕ)
-    → ((routeShapeFault d r ≡ false) × (routeFault n track routes i d r ≡ false)) ↔ Routed n track routes i d r
-unfolding routeShapeFault routeFault routePlaceFault
+    → ((routeShapeFault d r ≡ false) × (routeFault n track routes i d r .code ≡ 0)) ↔ Routed n track routes i d r
+unfolding routeShapeFault routeFault routePlaceCode placeRows
 routed-iff n track routes i d r =
-    simp (facts, any-false-iff, outside-false-iff 64, segment-iff n) (
+    simp (facts, first-of-zero-iff, first-zero-iff, first-none, outside-false-iff 64, segment-iff n) (
       λ ((direction, (low, high)), places).
           record {
             direction = omega arith;
@@ -273,13 +278,13 @@ routed-iff n track routes i d r =
             segment = λ p l h. places p l h .0;
             next = λ p l h.
                 let e : p + 1 - 1 ≡ p = omega arith in
-                rw e at (places (p + 1) (omega arith) (omega arith) .1 (omega arith));
+                rw e at (places (p + 1) (omega arith) (omega arith) .1 .0 (omega arith));
           },
       λ h. (
         (omega arith, (h .low, h .high)),
         λ p l g. (
           h .segment p l g,
-          λ later. let e : p - 1 + 1 ≡ p = omega arith in rw e at (h .next (p - 1) (omega arith) (omega arith)),
+          (λ later. let e : p - 1 + 1 ≡ p = omega arith in rw e at (h .next (p - 1) (omega arith) (omega arith)), refl),
         ),
       ),
     )
@@ -301,19 +306,19 @@ starts-iff t =
       λ e i hi j l h q. let same = e i j hi (omega arith) q in omega arith,
     )
 
--- The route of a train of an accepted table passes the tests of codes 10 and 11.
+-- The route of a train of an accepted table passes the tests of codes 10, 11 and 28.
 faultless
     : (t : Table) → Accepted t → (i : ℕ) → TrainOf t i
     → (routeShapeFault (trainPlanAt t i .direction) (trainPlanAt t i .length) ≡ false)
-    × (routeFault (t .n) (trackOf t) (t .routes) i (trainPlanAt t i .direction) (trainPlanAt t i .length) ≡ false)
+    × (routeFault (t .n) (trackOf t) (t .routes) i (trainPlanAt t i .direction) (trainPlanAt t i .length) .code ≡ 0)
 faultless t a i h = routed-iff (t .n) (trackOf t) (t .routes) i _ _ .1 (a .routes i h)
 
 -- A table is accepted exactly where its code is 0.
 pub accepted-iff : (t : Table) → (tableCode t ≡ 0) ↔ Accepted t
-unfolding tableCode partsCode headRows networkRows placingRows planFaultAt boxFaultAt shapeFaultAt routeFaultAt planAt trainPlanAt
+unfolding tableCode partsCode headRows networkRows placingRows routesFault planFaultAt boxFaultAt shapeFaultAt routeFaultAt planAt trainPlanAt
 accepted-iff t =
     simp
-    (facts, first-zero-iff, first-none, any-segment-iff, any-box-iff, any-train-iff, limits-iff, ends-iff, plan-iff, sides-iff, listing-iff, no-loop-iff) (
+    (facts, first-zero-iff, first-code-iff, first-none, any-segment-iff, any-box-iff, any-train-iff, first-train-iff, limits-iff, ends-iff, plan-iff, sides-iff, listing-iff, no-loop-iff) (
       λ (version, (limits, (ends, (plans, ((sides, listed), (noLoop, (shapes, (routes, (starts, none))))))))).
           record {
             version = version;

@@ -13,12 +13,13 @@ use lib.Seq.{take-append-seam, take-all, take-take, getD-take}
 use Rattle.rules.specs.declared.Line.{Line}
 use Rattle.rules.specs.Rows.{_if_, first}
 use Rattle.rules.specs.Network.{knownVersion, limitsFault, headRows}
-use Rattle.rules.specs.Placing.{conditionRows}
-use Rattle.rules.specs.File.{headSize, segmentSize, boxSize, trainSize, byteAt, marked, versionIn, segmentCount, boxCount, trainCount, boxStart, trainsFrom, fileLength, decode, earlyRows, fileCode}
+use Rattle.rules.specs.Placing.{conditionRows, withoutPlace, tellsPlace}
+use Rattle.rules.specs.File.{headSize, segmentSize, boxSize, trainSize, byteAt, marked, versionIn, segmentCount, boxCount, trainCount, boxStart, trainsFrom, fileLength, decode, earlyRows, fileCode, fileRefusal}
 use Rattle.rules.specs.Line.{emptyLine, read}
 use Rattle.rules.specs.Run.{stepCount}
 use Rattle.rules.specs.Printout.{mostSteps, takenOf, moreLine, runText, printoutUpTo, printout, mostFile, mostInput, AllBytes, Enough, textRoom, mostText, printCode, printLength, printedText}
 use Rattle.rules.proofs.Tests.{facts, outside-false-iff, first-before, first-none, first-zero-iff}
+use Rattle.rules.proofs.RouteFault.{without-place, row-placeless, none-placeless}
 
 -- Of the bytes after the steps that are taken, the first decides whether the last line stands.
 more-enough : (n most : ℕ) (input : List ℕ) → n < most → moreLine (drop n (take most input)) ≡ moreLine (drop n input)
@@ -80,6 +81,11 @@ long-refused : (bytes : List ℕ) → headCode bytes ≢ 0
 unfolding headCode
 long-refused bytes = some-row _ _ _
 
+long-placeless : (bytes : List ℕ) → tellsPlace (headCode bytes) ≡ false
+unfolding headCode tellsPlace
+long-placeless bytes =
+    row-placeless 2 _ _ refl (row-placeless 3 _ _ refl (row-placeless 4 _ _ refl (row-placeless 5 _ _ refl none-placeless)))
+
 long-code : (bytes : List ℕ) → AllBytes bytes → mostFile ≤ length bytes → first (earlyRows bytes) ≡ headCode bytes
 unfolding earlyRows headRows headCode
 long-code bytes low long =
@@ -87,13 +93,13 @@ long-code bytes low long =
     last-row _ _ _ _ _ whole (length-wrong bytes low long)
 
 long-read : (bytes : List ℕ) → AllBytes bytes → mostFile ≤ length bytes
-    → read bytes ≡ record { code = headCode bytes; line = emptyLine }
-unfolding read fileCode
+    → read bytes ≡ record { refusal = withoutPlace (headCode bytes); line = emptyLine }
+unfolding read fileRefusal fileCode
 long-read bytes low long =
     let early = long-code bytes low long in
     let refused = long-refused bytes in
     let code = sym (first-before (earlyRows bytes) (conditionRows (decode bytes)) (λ e. refused (sym early ∙ e))) ∙ early in
-    rw (code, ne-eqb (headCode bytes) 0)
+    rw (code, ne-eqb (headCode bytes) 0, without-place _ _ (long-placeless bytes))
 
 -- The first bytes of a file have its head, and are bytes.
 same-byte : (most : ℕ) (file : List ℕ) (i : ℕ) → i < most → byteAt (take most file) i ≡ byteAt file i

@@ -4,6 +4,8 @@ pub mod Tests
 pub mod Rows
 -- The test of code 9 says yes exactly where a loop exists.
 pub mod Loop
+-- The search through a table's routes finds the first place at fault.
+pub mod RouteFault
 -- What holds of an accepted table.
 pub mod Accepted
 -- On a track without a loop a route passes each segment and each box once.

@@ -6,8 +6,10 @@ use mathlib.Core.List.{List, _++_}
 use lib.ListN.{length, take, drop}
 use lib.Seq.{take-append-seam}
 use Rattle.rules.specs.declared.Table.{Table}
-use Rattle.rules.specs.File.{decode, fileCode, encode, usedPart, writeCode, written}
+use Rattle.rules.specs.Placing.{withoutPlace}
+use Rattle.rules.specs.File.{decode, fileCode, fileRefusal, encode, usedPart, writeCode, written}
 use Rattle.rules.specs.Line.{startLine, read}
+use Rattle.rules.proofs.RouteFault.{accepted-refusal}
 use Rattle.rules.proofs.Accepted.{accepted-code}
 use Rattle.rules.proofs.Files.{file-iff, write-iff}
 use Rattle.rules.proofs.WriteBack.{written-back}
@@ -26,10 +28,10 @@ file-back bytes buffer e h =
 
 -- The reader accepts the front of a written buffer and gives the start line of the table's used part.
 pub table-back : (t : Table) (buffer : List ℕ) → writeCode t buffer ≡ 0
-    → read (take (length (encode t)) (written t buffer)) ≡ record { code = 0; line = startLine (usedPart t) }
-unfolding written read
+    → read (take (length (encode t)) (written t buffer)) ≡ record { refusal = withoutPlace 0; line = startLine (usedPart t) }
+unfolding written read fileRefusal
 table-back t buffer e =
-    rw (e, take-append-seam, file-accepted t (write-iff t buffer .0 e .0), decode-encode)
+    rw (e, take-append-seam, file-accepted t (write-iff t buffer .0 e .0), decode-encode, accepted-refusal)
 
 -- A table that was read is all used part, so that it comes back whole.
 pub table-same : (bytes : List ℕ) → fileCode bytes ≡ 0 → usedPart (decode bytes) ≡ decode bytes

@@ -10,12 +10,12 @@ use lib.Seq.{drop-cons}
 use borrow.Author.Tests.{eqb-true, eqb-false}
 use Rattle.rules.specs.declared.Line.{Line}
 use Rattle.rules.specs.File.{fileCode, decode}
-use Rattle.rules.specs.Line.{startLine}
+use Rattle.rules.specs.Line.{startLine, emptyLine}
 use Rattle.rules.specs.Steps.{Step, step}
 use Rattle.rules.specs.Record.{checkedStep}
 use Rattle.rules.specs.History.{Call, events}
 use Rattle.rules.specs.Safety.{StaysSound}
-use Rattle.rules.specs.Run.{wholeSteps, stepCount, answersOf, partialAnswer, answersFrom, runCode, run, answered, SafeRun}
+use Rattle.rules.specs.Run.{wholeSteps, stepCount, answersOf, partialAnswer, answersFrom, runCode, runRefusal, run, answered, SafeRun}
 use Rattle.rules.proofs.Tests.{cond-alike, first-code-iff}
 use Rattle.rules.proofs.Demand3.{demand-3}
 use Rattle.rules.proofs.Consequences.{consequences}
@@ -83,9 +83,11 @@ module _ (file steps buffer : List ℕ) where
   pub checked-run : run checkedStep file steps buffer ≡ run step file steps buffer
   unfolding run
   checked-run =
-      cond-alike (eqb (runCode file steps buffer) 0) _ _ _ λ e.
+      let same =
+      cond-alike (eqb (runCode file steps buffer) 0) _ _ emptyLine λ e.
       let accepted = run-accepted file steps buffer (eqb-true _ 0 e) in
-      rw (consequences file accepted (wholeSteps steps) .checkedLine)
+      consequences file accepted (wholeSteps steps) .checkedLine in
+      ap (λ (l : Line). record { refusal = runRefusal file steps buffer; line = l }) same
 
   pub checked-answers : answered checkedStep file steps buffer ≡ answered step file steps buffer
   unfolding answered answersFrom
@@ -101,7 +103,7 @@ module _ (file steps buffer : List ℕ) where
   safe-run e =
       let accepted = run-accepted file steps buffer e in
       record {
-        line = rw checked-run (rw e refl);
+        line = rw e (consequences file accepted (wholeSteps steps) .checkedLine);
         answers = rw (checked-answers, e, append-assoc);
         safe = demand-3 file accepted (wholeSteps steps);
         throughout = λ n. demand-3 file accepted (take n (wholeSteps steps));

@@ -10,19 +10,25 @@ use lib.ListN.{getD}
 use borrow.Author.Tests.{lt-ltb}
 use Rattle.rules.specs.declared.Segment.{Segment}
 use Rattle.rules.specs.declared.Table.{Table}
+use Rattle.rules.specs.declared.Refusal.{Refusal}
 use Rattle.rules.specs.Rows.{anyOf, nth, listOf, joinOf, filled}
 use Rattle.rules.specs.Track.{noSegment, noBoxPlan, noTrainPlan, segmentAt, planAt, trainPlanAt, routeAt, trackOf, trackBy, farBox, nearBox, follows}
 use Rattle.rules.specs.Loop.{hasLoop}
 use Rattle.rules.specs.Network.{endsFault, planFault, hasEndA, hasEndB, listedFault, sideFault, boxFault, planFaultAt, boxFaultAt, unlistedFault, headRows, networkRows}
-use Rattle.rules.specs.Placing.{routeShapeFault, routePlaceFault, routeFault, startFault, shapeFaultAt, routeFaultAt, placingRows, partsCode, tableCode}
+use Rattle.rules.specs.Placing.{firstOf, routeShapeFault, placeRows, routePlaceCode, routeFault, startFault, shapeFaultAt, routeFaultAt, routesFault, placingRows, partsCode, tableCode}
 use Rattle.rules.specs.File.{usedPart}
 use Rattle.rules.proofs.Rows.{any-same, filled-length, filled-same, join-at, list-at, filled-nth}
 use Rattle.rules.proofs.Loop.{loop-same}
+use Rattle.rules.proofs.RouteFault.{first-same}
 use Rattle.rules.proofs.Accepted.{UsedIf, Accepted, accepted}
 
 -- A test over all records finds the same in two tables with as many records, where it finds the same at each.
 test-same : {f g : ℕ → Bool} {m n : ℕ} → m ≡ n → ((s : ℕ) → 1 ≤ s → s ≤ n → f s ≡ g s) → anyOf m f ≡ anyOf n g
 test-same {f} {g} {n} e h = rw e (any-same f g n h)
+
+-- So does a search for the first.
+search-same : {f g : ℕ → Refusal} {m n : ℕ} → m ≡ n → ((s : ℕ) → 1 ≤ s → s ≤ n → f s ≡ g s) → firstOf m f ≡ firstOf n g
+search-same {f} {g} {n} e h = rw e (first-same f g n h)
 
 -- What stands at a place of a box is a segment of the table, or 0.
 place-high : {n : ℕ} {case : Type 0} {s : ℕ} → Dec case → UsedIf n case s → s ≤ n
@@ -97,7 +103,7 @@ module _ (t u : Table) (same : SameUse t u) (ok : Accepted t) where
       ap (λ (n : ℕ). hasLoop n (trackOf u)) (same .n)
       ∙ loop-same (t .n) (trackOf t) (trackOf u) (λ s x h k. follows-same 0 s x (h .high) (k .high))
 
-  -- Codes 10 to 12 at a train.
+  -- Codes 10 to 12 and 28 at a train.
   shape-same : (i : ℕ) → 1 ≤ i → i ≤ t .k
       → routeShapeFault (trainPlanAt u i .direction) (trainPlanAt u i .length) ≡ routeShapeFault (trainPlanAt t i .direction) (trainPlanAt t i .length)
   shape-same i l h = rw (same .trains i h)
@@ -105,10 +111,10 @@ module _ (t u : Table) (same : SameUse t u) (ok : Accepted t) where
   route-same : (i : ℕ) → 1 ≤ i → i ≤ t .k
       → routeFault (u .n) (trackOf u) (u .routes) i (trainPlanAt u i .direction) (trainPlanAt u i .length)
       ≡ routeFault (t .n) (trackOf t) (t .routes) i (trainPlanAt t i .direction) (trainPlanAt t i .length)
-  unfolding routeFault routePlaceFault
+  unfolding routeFault routePlaceCode placeRows
   route-same i l h =
       rw (same .trains i h)
-      (test-same refl λ p low high.
+      (search-same refl λ p low high.
       let before : p - 1 ≤ trainPlanAt t i .length = omega arith in
       rw (
         same .routes i p h high,
@@ -125,7 +131,7 @@ module _ (t u : Table) (same : SameUse t u) (ok : Accepted t) where
 
   -- So the other has the same code.
   same-code : tableCode u ≡ tableCode t
-  unfolding tableCode partsCode headRows networkRows placingRows planFaultAt boxFaultAt shapeFaultAt routeFaultAt planAt trainPlanAt
+  unfolding tableCode partsCode headRows networkRows placingRows routesFault planFaultAt boxFaultAt shapeFaultAt routeFaultAt planAt trainPlanAt
   same-code =
       rw (
         test-same (same .n) ends-same,
@@ -134,7 +140,7 @@ module _ (t u : Table) (same : SameUse t u) (ok : Accepted t) where
         test-same (same .n) unlisted-same,
         loops-same,
         test-same (same .k) shape-same,
-        test-same (same .k) route-same,
+        search-same (same .k) route-same,
         test-same (same .k) start-same,
         same .version,
         same .n,

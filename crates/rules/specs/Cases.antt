@@ -5,12 +5,13 @@ use Prim.Native.Nat.{ℕ, _+_, _-_, _*_}
 use mathlib.Core.List.{List, [], _∷_, _++_}
 use lib.ListN.{take, set}
 use Rattle.rules.specs.declared.Table.{Table}
+use Rattle.rules.specs.declared.Refusal.{Refusal}
 use Rattle.rules.specs.declared.SwitchBox.{SwitchBox}
 use Rattle.rules.specs.declared.Train.{Train}
 use Rattle.rules.specs.declared.Line.{Line}
 use Rattle.rules.specs.Rows.{joinOf}
 use Rattle.rules.specs.Track.{planAt, joins}
-use Rattle.rules.specs.File.{fileCode, decode, encode, routeCode, routePart, routeFrom, writeCode, written}
+use Rattle.rules.specs.File.{fileRefusal, decode, encode, routeRefusal, routePart, routeFrom, writeRefusal, written}
 use Rattle.rules.specs.Line.{startLine, around, boxAt, trainAt, messageState, messageKind, messageBox, messageCode}
 use Rattle.rules.specs.Steps.{Step}
 use Rattle.rules.specs.Record.{checkedStep}
@@ -22,7 +23,7 @@ use Rattle.rules.specs.Printout.{bytesOf, decimal, mostSteps, takenOf, p
 
 -- What is asked of the definitions about a file, or about a file and a list of steps.
 pub data Question : Type 0 where
-  -- The file's code.
+  -- The file's code, with train and place.
   codeOf : List ℕ → Question
   -- Whether a position of a box of the file's table joins two segments.
   joinedAt : List ℕ → ℕ → ℕ → ℕ → ℕ → Question
@@ -40,8 +41,8 @@ pub data Question : Type 0 where
   -- What is printed, for the file and the input; the same where at most so many steps are taken.
   printed : List ℕ → List ℕ → Question
   printedUpTo : ℕ → List ℕ → List ℕ → Question
-  -- A run's code and the whole buffer after it, for the file, the steps and a buffer for the answers; the code with all trains and
-  -- boxes after it.
+  -- A run's code, with train and place, and the whole buffer after it, for the file, the steps and a buffer for the answers; the same
+  -- with all trains and boxes after it.
   runTo : List ℕ → List ℕ → List ℕ → Question
   runLine : List ℕ → List ℕ → List ℕ → Question
   -- The room asked for the text of an input. What is printed into lent memory, for the file, the input and buffers for the answers
@@ -49,7 +50,7 @@ pub data Question : Type 0 where
   roomFor : List ℕ → Question
   printedTo : List ℕ → List ℕ → List ℕ → List ℕ → Question
   answersBeside : List ℕ → List ℕ → List ℕ → List ℕ → Question
-  -- The writer's code and the whole buffer after it, for a table record.
+  -- The writer's code, with train and place, and the whole buffer after it, for a table record.
   writtenTo : Table → List ℕ → Question
   -- The code of a single step on any record; the same with a train, a box, and all trains and boxes after it.
   checked : Line → Step → Question
@@ -67,7 +68,7 @@ pub data Question : Type 0 where
   atomicAnswersTo : List ℕ → List Step → Question
   -- After the order of atomic steps: the atomic line's box, as above.
   atomicBoxAfter : List ℕ → List Step → ℕ → Question
-  -- The route of a train as a part of the file, after its code.
+  -- The route of a train as a part of the file, after its code with train and place.
   routeOf : List ℕ → ℕ → Question
 
 unfoldable pub stepBytes : List Step → List ℕ
@@ -97,8 +98,11 @@ unfoldable pub lineNumbers : Line → List ℕ
 lineNumbers l =
     joinOf (l .table .k) (λ i. trainNumbers (trainAt l i)) ++ joinOf (l .table .m) (λ b. boxNumbers (boxAt l b))
 
+unfoldable pub refusalNumbers : Refusal → List ℕ
+refusalNumbers r = r .code ∷ r .train ∷ r .place ∷ []
+
 unfoldable pub found : Question → List ℕ
-found (codeOf bytes) = fileCode bytes ∷ []
+found (codeOf bytes) = refusalNumbers (fileRefusal bytes)
 found (joinedAt bytes b x s z) = bit (joins (planAt (decode bytes) b) x s z) ∷ []
 found (rewritten bytes) = encode (decode bytes)
 found (answersTo bytes steps) = answersOf (history (decode bytes) steps)
@@ -110,15 +114,16 @@ found (decimalOf x) = decimal x
 found (stepsTaken input) = stepCount (takenOf mostSteps input) ∷ []
 found (printed bytes input) = printout bytes input
 found (printedUpTo most bytes input) = printoutUpTo most bytes input
-found (runTo bytes input buffer) = run checkedStep bytes input buffer .code ∷ answered checkedStep bytes input buffer
+found (runTo bytes input buffer) =
+    refusalNumbers (run checkedStep bytes input buffer .refusal) ++ answered checkedStep bytes input buffer
 found (runLine bytes input buffer) =
     let o = run checkedStep bytes input buffer in
-    o .code ∷ lineNumbers (o .line)
+    refusalNumbers (o .refusal) ++ lineNumbers (o .line)
 found (roomFor input) = textRoom input ∷ []
 found (printedTo bytes input answers text) =
     printCode input answers text ∷ printLength bytes input answers text ∷ printedText bytes input answers text
 found (answersBeside bytes input answers text) = printCode input answers text ∷ printedAnswers bytes input answers text
-found (writtenTo t buffer) = writeCode t buffer ∷ written t buffer
+found (writtenTo t buffer) = refusalNumbers (writeRefusal t buffer) ++ written t buffer
 found (checked l s) = checkedStep l s .code ∷ []
 found (checkedTrain l s i) =
     let o = checkedStep l s in
@@ -142,9 +147,9 @@ found (atomicAnswersTo bytes steps) =
     let es = events atomicStep l steps in
     bit (stopped es) ∷ answersOf es ++ lineNumbers (lineAfter atomicStep l steps)
 found (atomicBoxAfter bytes steps b) = boxNumbers (boxAt (atomic (decode bytes) steps) b)
-found (routeOf bytes i) = routeCode bytes i ∷ routeFrom bytes i ∷ routePart bytes i
+found (routeOf bytes i) = refusalNumbers (routeRefusal bytes i) ++ (routeFrom bytes i ∷ routePart bytes i)
 
--- A question and the answer that 01 gives or, for runs and the printout in lent memory, its reading in docs/DECISIONS.md.
+-- A question and the answer that 01 gives, as 02 changes it, or, for runs and the printout in lent memory, its reading in docs/DECISIONS.md.
 pub record Case : Type 0 where
   pub ask : Question
   pub expected : List ℕ
@@ -257,27 +262,27 @@ sixteenLines =
 unfoldable pub paperCases : List Case
 paperCases =
     -- S is accepted; less a byte, or with one more: 5; 7 bytes: 1. Written out it has the bytes that it was read from.
-    codeOf tableS gives (0 ∷ [])
-    ∷ codeOf (take 45 tableS) gives (5 ∷ [])
-    ∷ codeOf (tableS ++ (0 ∷ [])) gives (5 ∷ [])
-    ∷ codeOf (take 7 tableS) gives (1 ∷ [])
+    codeOf tableS gives (0 ∷ 0 ∷ 0 ∷ [])
+    ∷ codeOf (take 45 tableS) gives (5 ∷ 0 ∷ 0 ∷ [])
+    ∷ codeOf (tableS ++ (0 ∷ [])) gives (5 ∷ 0 ∷ 0 ∷ [])
+    ∷ codeOf (take 7 tableS) gives (1 ∷ 0 ∷ 0 ∷ [])
     ∷ rewritten tableS gives tableS
     -- n = 96 may be accepted; 97: 4.
-    ∷ codeOf longLine gives (0 ∷ [])
-    ∷ codeOf (set longLine 5 97) gives (4 ∷ [])
-    ∷ codeOf (set tableS 5 97) gives (4 ∷ [])
+    ∷ codeOf longLine gives (0 ∷ 0 ∷ 0 ∷ [])
+    ∷ codeOf (set longLine 5 97) gives (4 ∷ 0 ∷ 0 ∷ [])
+    ∷ codeOf (set tableS 5 97) gives (4 ∷ 0 ∷ 0 ∷ [])
     -- One segment between two borders: accepted; a step of train 1: 14.
-    ∷ codeOf oneSegment gives (0 ∷ [])
+    ∷ codeOf oneSegment gives (0 ∷ 0 ∷ 0 ∷ [])
     ∷ answersTo oneSegment (stepOf 1 1 1 ∷ stepOf 1 1 2 ∷ []) gives (14 ∷ 14 ∷ [])
     -- Two links in a ring: 9.
-    ∷ codeOf ring gives (9 ∷ [])
-    -- Route 2, 3: 11. Two trains that start on 1: 12.
-    ∷ codeOf parallelRoute gives (11 ∷ [])
-    ∷ codeOf oneStart gives (12 ∷ [])
+    ∷ codeOf ring gives (9 ∷ 0 ∷ 0 ∷ [])
+    -- Route 2, 3 of train 1: 28 at place 2. Two trains that start on 1: 12.
+    ∷ codeOf parallelRoute gives (28 ∷ 1 ∷ 2 ∷ [])
+    ∷ codeOf oneStart gives (12 ∷ 0 ∷ 0 ∷ [])
     -- After the first three steps: 18 at box 2, 17 at box 4.
     ∷ answersTo tableS (asked 1 1 2 ++ (stepOf 1 1 2 ∷ stepOf 1 1 4 ∷ [])) gives (0 ∷ 0 ∷ 0 ∷ 18 ∷ 17 ∷ [])
     -- A reservation of what another holds: 22, from the box and when it is heard.
-    ∷ codeOf opposed gives (0 ∷ [])
+    ∷ codeOf opposed gives (0 ∷ 0 ∷ 0 ∷ [])
     ∷ answersTo opposed (asked 1 1 2 ++ asked 1 2 2) gives (0 ∷ 0 ∷ 0 ∷ 0 ∷ 22 ∷ 22 ∷ [])
     -- The passage onto 2: train 1 stands on 2, box 2 holds nothing, box 3 holds 2 for it (and 4 for train 2).
     ∷ answersTo tableS passage gives (0 ∷ 0 ∷ 0 ∷ 0 ∷ 0 ∷ 0 ∷ 0 ∷ 0 ∷ 0 ∷ 0 ∷ 0 ∷ [])
@@ -285,10 +290,10 @@ paperCases =
     ∷ boxAfter tableS passage 2 gives (0 ∷ 1 ∷ 0 ∷ 0 ∷ 0 ∷ 0 ∷ [])
     ∷ boxAfter tableS passage 3 gives (0 ∷ 1 ∷ 0 ∷ 2 ∷ 1 ∷ 0 ∷ [])
     -- A lock that another holds: 24; while the other crosses: 23.
-    ∷ codeOf merging gives (0 ∷ [])
+    ∷ codeOf merging gives (0 ∷ 0 ∷ 0 ∷ [])
     ∷ answersTo merging contest gives (0 ∷ 0 ∷ 0 ∷ 0 ∷ 0 ∷ 0 ∷ 0 ∷ 0 ∷ 0 ∷ 0 ∷ 24 ∷ 24 ∷ 0 ∷ 0 ∷ 23 ∷ 23 ∷ [])
     -- A route of length 1: Enter gives 16. Clear when single: 20.
-    ∷ codeOf shortRoute gives (0 ∷ [])
+    ∷ codeOf shortRoute gives (0 ∷ 0 ∷ 0 ∷ [])
     ∷ answersTo shortRoute (stepOf 5 1 0 ∷ stepOf 6 1 0 ∷ []) gives (16 ∷ 20 ∷ [])
     -- The printout of table S.
     ∷ printed tableS tenSteps gives sixteenLines

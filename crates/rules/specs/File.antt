@@ -8,10 +8,11 @@ use Rattle.rules.specs.declared.Segment.{Segment}
 use Rattle.rules.specs.declared.BoxPlan.{BoxPlan}
 use Rattle.rules.specs.declared.TrainPlan.{TrainPlan}
 use Rattle.rules.specs.declared.Table.{Table}
+use Rattle.rules.specs.declared.Refusal.{Refusal}
 use Rattle.rules.specs.Rows.{Row, _if_, first, outside, listOf, joinOf, filled}
 use Rattle.rules.specs.Track.{noSegment, noBoxPlan, noTrainPlan, segmentAt, planAt, trainPlanAt, routeAt}
 use Rattle.rules.specs.Network.{headRows}
-use Rattle.rules.specs.Placing.{conditionRows, tableCode}
+use Rattle.rules.specs.Placing.{conditionRows, tableCode, refusalBy, routesFaultIn}
 
 -- The sizes of a file's parts, by its version: the head, a segment record, a box record, and a train record without its route.
 abbrev pub headSize : ℕ
@@ -120,14 +121,20 @@ earlyRows bytes =
     ∷ headRows (versionIn bytes) (segmentCount bytes) (boxCount bytes) (trainCount bytes)
     ++ (5 if not (eqb (length bytes) (fileLength bytes)) ∷ [])
 
--- The code of a file: 1 to 12, or 0.
+-- The code of a file: 1 to 12 or 28, or 0; and why it is refused.
 unfoldable pub fileCode : List ℕ → ℕ
 fileCode bytes = first (earlyRows bytes ++ conditionRows (decode bytes))
+
+unfoldable pub fileRefusal : List ℕ → Refusal
+fileRefusal bytes = refusalBy (fileCode bytes) (routesFaultIn (decode bytes))
 
 -- The route of train i as a part of the file: the file's code, then 14 for a train 0 or above k; with either the part is empty, at
 -- the file's beginning.
 unfoldable pub routeCode : List ℕ → ℕ → ℕ
 routeCode bytes i = first (fileCode bytes if not (eqb (fileCode bytes) 0) ∷ 14 if outside (trainCount bytes) i ∷ [])
+
+unfoldable pub routeRefusal : List ℕ → ℕ → Refusal
+routeRefusal bytes i = refusalBy (routeCode bytes i) (routesFaultIn (decode bytes))
 
 unfoldable pub routePart : List ℕ → ℕ → List ℕ
 routePart bytes i = cond (eqb (routeCode bytes i) 0) (routeIn bytes i) []
@@ -175,6 +182,9 @@ usedPart t =
 unfoldable pub writeCode : Table → List ℕ → ℕ
 writeCode t buffer =
     first (tableCode t if not (eqb (tableCode t) 0) ∷ 26 if ltb (length buffer) (length (encode t)) ∷ [])
+
+unfoldable pub writeRefusal : Table → List ℕ → Refusal
+writeRefusal t buffer = refusalBy (writeCode t buffer) (routesFaultIn t)
 
 unfoldable pub written : Table → List ℕ → List ℕ
 written t buffer = cond (eqb (writeCode t buffer) 0) (encode t ++ drop (length (encode t)) buffer) buffer

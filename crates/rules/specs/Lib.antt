@@ -3,11 +3,13 @@
 pub mod Rows
 -- The line: records by number, the track, boxes, directions.
 pub mod Track
--- Codes 3, 4 and 6 to 12: a table is accepted. Each condition stands once, over the track and the other parts that it asks for;
--- `conditionRows` and `tableCode` put a table's own parts in.
+-- Codes 3, 4, 6 to 12 and 28: a table is accepted. Each condition stands once, over the track and the other parts that it asks
+-- for; `conditionRows` and `tableCode` put a table's own parts in.
 pub mod Loop
 pub mod Network
 pub mod Placing
+-- Codes 11 and 28 once more, in plain words.
+pub mod RouteFault
 -- Codes 1 to 5 and 26: the table file, read and written.
 pub mod File
 -- The line record, its start, and what stands around a train.

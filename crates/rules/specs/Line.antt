@@ -15,10 +15,10 @@ use Rattle.rules.specs.declared.Message.the-variants.{Idle, Sent, Answer
 use Rattle.rules.specs.declared.Train.{Train}
 use Rattle.rules.specs.declared.Line.{Line}
 use Rattle.rules.specs.declared.Around.{Around}
-use Rattle.rules.specs.declared.Outcome.{Outcome}
+use Rattle.rules.specs.declared.FileOutcome.{FileOutcome}
 use Rattle.rules.specs.Rows.{nth, setNth, listOf, filled}
 use Rattle.rules.specs.Track.{noSegment, noBoxPlan, noTrainPlan, routeAt, Track, trackOf, pointAt, farBox, nearBox}
-use Rattle.rules.specs.File.{fileCode, decode}
+use Rattle.rules.specs.File.{fileCode, fileRefusal, decode}
 
 -- 01's numbers for a request: the kind of step that makes it, and its box.
 unfoldable pub requestKind : Request → ℕ
@@ -177,11 +177,10 @@ emptyLine =
       routes = replicate 1024 0;
     }
 
--- The reader: a file's code, and the start line of its table or, where it is refused, the empty record.
-unfoldable pub read : List ℕ → Outcome
+-- The reader: why a file is refused, and the start line of its table or, where it is refused, the empty record.
+unfoldable pub read : List ℕ → FileOutcome
 read bytes =
-    let c = fileCode bytes in
-    cond (eqb c 0) (record { code = 0; line = startLine (decode bytes) }) (record { code = c; line = emptyLine })
+    record { refusal = fileRefusal bytes; line = cond (eqb (fileCode bytes) 0) (startLine (decode bytes)) emptyLine }
 
 -- What stands around train i with record r, by the track, by which boxes are points, and by its route as it stands in `routes`.
 -- On a route that follows, the near end of next is at the box ahead. Where there is no next, code 16 comes before its use.

@@ -8,7 +8,9 @@ use mathlib.Core.List.{List, [], _∷_, _++_}
 use lib.Dec.{eqb, leb, ltb}
 use lib.ListN.{length, getD, take, drop}
 use Rattle.rules.specs.declared.Line.{Line}
+use Rattle.rules.specs.declared.Refusal.{Refusal}
 use Rattle.rules.specs.Rows.{nth, joinOf, _if_, first}
+use Rattle.rules.specs.Placing.{tellsPlace}
 use Rattle.rules.specs.Line.{read, boxAt, trainAt, around}
 use Rattle.rules.specs.Steps.{step}
 use Rattle.rules.specs.Record.{checkedStep}
@@ -84,11 +86,20 @@ runText most l input =
     ++ lineText (lineAfter step l (wholeSteps taken))
     ++ moreLine (drop (3 * most) input)
 
+-- The line of a refused file: the code and, where it is about a place of a route, train and place.
+unfoldable pub fileLine : Refusal → List ℕ
+fileLine r =
+    textLine (
+    bytesOf "file"
+    ∷ decimal (r .code)
+    ∷ cond (tellsPlace (r .code)) (decimal (r .train) ∷ decimal (r .place) ∷ []) []
+    )
+
 -- What is printed where at most so many steps are taken, and what the program prints.
 unfoldable pub printoutUpTo : ℕ → List ℕ → List ℕ → List ℕ
 printoutUpTo most file input =
     let o = read file in
-    cond (eqb (o .code) 0) (runText most (o .line) input) (textLine (bytesOf "file" ∷ decimal (o .code) ∷ []))
+    cond (eqb (o .refusal .code) 0) (runText most (o .line) input) (fileLine (o .refusal))
 
 unfoldable pub printout : List ℕ → List ℕ → List ℕ
 printout file input = printoutUpTo mostSteps file input

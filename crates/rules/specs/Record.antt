@@ -35,12 +35,12 @@ messageFault v r (Sent q) = addressFault v r q
 messageFault v r (Answered q c) = addressFault v r q || not (answerCode q c)
 
 -- Train i with record r, on n segments of a track, where `point` says which boxes are points and `routes` has the routes as they
--- stand: its route fails 10 or 11; the train is outside its route, its tail included; it covers no segment or more than it may; or
+-- stand: its route fails 10, 11 or 28; the train is outside its route, its tail included; it covers no segment or more than it may; or
 -- its message is at fault.
 unfoldable pub trainFault : ℕ → Track → (ℕ → Bool) → List ℕ → ℕ → Train → Bool
 trainFault n track point routes i r =
     routeShapeFault (r .direction) (r .length)
-    || routeFault n track routes i (r .direction) (r .length)
+    || not (eqb (routeFault n track routes i (r .direction) (r .length) .code) 0)
     || eqb (r .place) 0
     || ltb (r .length) (r .place)
     || ltb (r .place) (r .covered)

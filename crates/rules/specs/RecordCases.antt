@@ -62,7 +62,7 @@ onlyPosition = record { sensor = false; position = 1; lock = 0; stem = 0; left =
 abbrev pub heardOn : Line → Question
 heardOn l = checked l (stepOf 4 1 0)
 
--- The code of a line's table part, which is the writer's for a buffer of no bytes.
+-- The code of a line's table part, with train and place, which is the writer's for a buffer of no bytes.
 abbrev pub tablePart : Line → Question
 tablePart l = writtenTo (l .table) []
 
@@ -75,34 +75,37 @@ recordCases =
     heardOn startS gives (21 ∷ [])
     ∷ heardOn (reached (decode tableS) crossing) gives (21 ∷ [])
     -- The table part with its code: the empty record, codes 6, 12, 3 and 4.
-    ∷ tablePart emptyLine gives (3 ∷ [])
+    ∷ tablePart emptyLine gives (3 ∷ 0 ∷ 0 ∷ [])
     ∷ heardOn emptyLine gives (27 ∷ [])
-    ∷ tablePart (startLine (decode (set tableS 9 1))) gives (6 ∷ [])
+    ∷ tablePart (startLine (decode (set tableS 9 1))) gives (6 ∷ 0 ∷ 0 ∷ [])
     ∷ heardOn (startLine (decode (set tableS 9 1))) gives (27 ∷ [])
-    ∷ tablePart (startLine (decode oneStart)) gives (12 ∷ [])
+    ∷ tablePart (startLine (decode oneStart)) gives (12 ∷ 0 ∷ 0 ∷ [])
     ∷ heardOn (startLine (decode oneStart)) gives (27 ∷ [])
-    ∷ tablePart (startLine (decode (set tableS 4 2))) gives (3 ∷ [])
+    ∷ tablePart (startLine (decode (set tableS 4 2))) gives (3 ∷ 0 ∷ 0 ∷ [])
     ∷ heardOn (startLine (decode (set tableS 4 2))) gives (27 ∷ [])
-    ∷ tablePart (startLine (decode (set tableS 7 17))) gives (4 ∷ [])
+    ∷ tablePart (startLine (decode (set tableS 7 17))) gives (4 ∷ 0 ∷ 0 ∷ [])
     ∷ heardOn (startLine (decode (set tableS 7 17))) gives (27 ∷ [])
-    -- The same where nothing else is at fault: 7, 8, 10 and 11 beside table S's boxes and trains, and 9 with no train.
+    -- The same where nothing else is at fault: 7, 8, 10, 11 and 28 beside table S's boxes and trains, and 9 with no train.
     ∷ checked startS (stepOf 1 1 2) gives (0 ∷ [])
-    ∷ tablePart (withTable (set tableS 18 2)) gives (7 ∷ [])
+    ∷ tablePart (withTable (set tableS 18 2)) gives (7 ∷ 0 ∷ 0 ∷ [])
     ∷ untouched (withTable (set tableS 18 2))
-    ∷ tablePart (withTable (set tableS 17 2)) gives (8 ∷ [])
+    ∷ tablePart (withTable (set tableS 17 2)) gives (8 ∷ 0 ∷ 0 ∷ [])
     ∷ untouched (withTable (set tableS 17 2))
-    ∷ tablePart (startLine (decode ring)) gives (9 ∷ [])
+    ∷ tablePart (startLine (decode ring)) gives (9 ∷ 0 ∷ 0 ∷ [])
     ∷ untouched (startLine (decode ring))
-    ∷ tablePart (withTable (set tableS 36 2)) gives (10 ∷ [])
+    ∷ tablePart (withTable (set tableS 36 2)) gives (10 ∷ 0 ∷ 0 ∷ [])
     ∷ untouched (withTable (set tableS 36 2))
-    ∷ tablePart (withTable (set tableS 39 4)) gives (11 ∷ [])
+    ∷ tablePart (withTable (set tableS 45 5)) gives (11 ∷ 2 ∷ 3 ∷ [])
+    ∷ untouched (withTable (set tableS 45 5))
+    ∷ tablePart (withTable (set tableS 39 4)) gives (28 ∷ 1 ∷ 2 ∷ [])
     ∷ untouched (withTable (set tableS 39 4))
     -- What the reader leaves: a line, or none.
     ∷ heardOn (read tableS .line) gives (21 ∷ [])
     ∷ heardOn (read (tableS ++ (0 ∷ [])) .line) gives (27 ∷ [])
-    -- The route as it stands: another that follows, one that does not, a direction above 1 or against it, lengths 0 and 65.
+    -- The route as it stands: another that follows, ones that do not (at train 2's last place too), a direction above 1 or against it, lengths 0 and 65.
     ∷ heardOn (withRoutes (set (startS .routes) 1 3)) gives (21 ∷ [])
     ∷ heardOn (withRoutes (set (startS .routes) 1 4)) gives (27 ∷ [])
+    ∷ heardOn (withRoutes (set (startS .routes) 66 2)) gives (27 ∷ [])
     ∷ heardOn (withTrain 2 3 1 1 Idle) gives (27 ∷ [])
     ∷ heardOn (withTrain 1 3 1 1 Idle) gives (27 ∷ [])
     ∷ heardOn (withTrain 0 0 1 1 Idle) gives (27 ∷ [])

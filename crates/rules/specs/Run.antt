@@ -6,8 +6,10 @@ use mathlib.Core.List.{List, [], _∷_, _++_}
 use lib.Dec.{eqb, ltb}
 use lib.ListN.{length, take, drop}
 use Rattle.rules.specs.declared.Line.{Line}
-use Rattle.rules.specs.declared.Outcome.{Outcome}
+use Rattle.rules.specs.declared.Refusal.{Refusal}
+use Rattle.rules.specs.declared.FileOutcome.{FileOutcome}
 use Rattle.rules.specs.Rows.{_if_, first}
+use Rattle.rules.specs.Placing.{refusalBy, routesFaultIn}
 use Rattle.rules.specs.File.{fileCode, decode}
 use Rattle.rules.specs.Line.{startLine, emptyLine}
 use Rattle.rules.specs.Steps.{Step}
@@ -39,18 +41,22 @@ partialAnswer bytes = cond (eqb (length bytes % 3) 0) [] (13 ∷ [])
 unfoldable pub answersFrom : Call → Line → List ℕ → List ℕ
 answersFrom call l bytes = answersOf (events call l (wholeSteps bytes)) ++ partialAnswer bytes
 
--- The code of a run: the file's, then 26 where the lent buffer is shorter than the answers.
+-- The code of a run: the file's, then 26 where the lent buffer is shorter than the answers; and why it is refused.
 unfoldable pub runCode : List ℕ → List ℕ → List ℕ → ℕ
 runCode file steps buffer =
     first (fileCode file if not (eqb (fileCode file) 0) ∷ 26 if ltb (length buffer) (stepCount steps) ∷ [])
 
+unfoldable pub runRefusal : List ℕ → List ℕ → List ℕ → Refusal
+runRefusal file steps buffer = refusalBy (runCode file steps buffer) (routesFaultIn (decode file))
+
 -- A run: the line after all steps or, where it is refused, the empty record; and the whole buffer after it, as it was where it is
 -- refused.
-unfoldable pub run : Call → List ℕ → List ℕ → List ℕ → Outcome
+unfoldable pub run : Call → List ℕ → List ℕ → List ℕ → FileOutcome
 run call file steps buffer =
-    let c = runCode file steps buffer in
-    cond (eqb c 0) (record { code = 0; line = lineAfter call (startLine (decode file)) (wholeSteps steps) })
-    (record { code = c; line = emptyLine })
+    record {
+      refusal = runRefusal file steps buffer;
+      line = cond (eqb (runCode file steps buffer) 0) (lineAfter call (startLine (decode file)) (wholeSteps steps)) emptyLine;
+    }
 
 unfoldable pub answered : Call → List ℕ → List ℕ → List ℕ → List ℕ
 answered call file steps buffer =
@@ -69,7 +75,7 @@ pub record SafeRun (file steps : List ℕ) (after : Line) (buffer answered : Lis
 
 -- What a run promises, with a buffer before and after it: the outcome and the buffer are those of calls that begin with the record
 -- check, one after the other, and demand 3 holds.
-pub record Ran (file steps before : List ℕ) (r : Outcome) (after : List ℕ) : Type 0 where
+pub record Ran (file steps before : List ℕ) (r : FileOutcome) (after : List ℕ) : Type 0 where
   pub outcome : r ≡ run checkedStep file steps before
   pub buffer : after ≡ answered checkedStep file steps before
-  pub safe : r .code ≡ 0 → SafeRun file steps (r .line) before after
+  pub safe : r .refusal .code ≡ 0 → SafeRun file steps (r .line) before after

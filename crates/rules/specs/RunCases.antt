@@ -1,10 +1,10 @@
 -- Cases of runs and of the printout in lent memory: their codes, what they leave in the buffers, and the line after a run.
 use Prim.Native.Nat.{ℕ, _-_}
 use mathlib.Core.List.{List, [], _∷_, _++_}
-use lib.ListN.{take, replicate}
+use lib.ListN.{set, take, replicate}
 use Rattle.rules.specs.Rows.{joinOf}
 use Rattle.rules.specs.Printout.{bytesOf, mostFile}
-use Rattle.rules.specs.Cases.{codeOf, runTo, runLine, roomFor, printedTo, answersBeside, Case, _gives_, tableS, shortRoute, merging, tenSteps, sixteenLines}
+use Rattle.rules.specs.Cases.{codeOf, runTo, runLine, roomFor, printedTo, answersBeside, Case, _gives_, tableS, parallelRoute, shortRoute, merging, tenSteps, sixteenLines}
 use Rattle.rules.specs.StepCases.{mergingNumbers, shortText}
 
 -- The answers to the ten steps, as the printout has them.
@@ -38,27 +38,30 @@ grantedNumbers =
 unfoldable pub runCases : List Case
 runCases =
     -- The ten steps: of a buffer of twelve bytes the last two stay; ten are enough. 26: one of nine stays as it was, with no line.
-    runTo tableS tenSteps (replicate 12 7) gives (0 ∷ tenAnswers ++ (7 ∷ 7 ∷ []))
-    ∷ runTo tableS tenSteps (replicate 10 7) gives (0 ∷ tenAnswers)
-    ∷ runTo tableS tenSteps (replicate 9 7) gives (26 ∷ replicate 9 7)
-    ∷ runLine tableS tenSteps (replicate 12 7) gives (0 ∷ tenNumbers)
-    ∷ runLine tableS tenSteps (replicate 9 7) gives (26 ∷ [])
+    runTo tableS tenSteps (replicate 12 7) gives (0 ∷ 0 ∷ 0 ∷ tenAnswers ++ (7 ∷ 7 ∷ []))
+    ∷ runTo tableS tenSteps (replicate 10 7) gives (0 ∷ 0 ∷ 0 ∷ tenAnswers)
+    ∷ runTo tableS tenSteps (replicate 9 7) gives (26 ∷ 0 ∷ 0 ∷ replicate 9 7)
+    ∷ runLine tableS tenSteps (replicate 12 7) gives (0 ∷ 0 ∷ 0 ∷ tenNumbers)
+    ∷ runLine tableS tenSteps (replicate 9 7) gives (26 ∷ 0 ∷ 0 ∷ [])
     -- The file's code, with the buffer as it was and no line; before 26.
-    ∷ runTo (take 45 tableS) tenSteps (replicate 12 7) gives (5 ∷ replicate 12 7)
-    ∷ runTo (take 45 tableS) tenSteps (replicate 9 7) gives (5 ∷ replicate 9 7)
-    ∷ runLine (take 45 tableS) tenSteps (replicate 12 7) gives (5 ∷ [])
+    ∷ runTo (take 45 tableS) tenSteps (replicate 12 7) gives (5 ∷ 0 ∷ 0 ∷ replicate 12 7)
+    ∷ runTo (take 45 tableS) tenSteps (replicate 9 7) gives (5 ∷ 0 ∷ 0 ∷ replicate 9 7)
+    ∷ runLine (take 45 tableS) tenSteps (replicate 12 7) gives (5 ∷ 0 ∷ 0 ∷ [])
+    ∷ runTo (set tableS 45 5) tenSteps (replicate 9 7) gives (11 ∷ 2 ∷ 3 ∷ replicate 9 7)
+    ∷ runTo parallelRoute tenSteps (replicate 12 7) gives (28 ∷ 1 ∷ 2 ∷ replicate 12 7)
+    ∷ runLine parallelRoute tenSteps (replicate 12 7) gives (28 ∷ 1 ∷ 2 ∷ [])
     -- A last step of two bytes and of one: 13, and nothing is heard.
-    ∷ runTo tableS (granting ++ (4 ∷ 1 ∷ [])) (replicate 4 7) gives (0 ∷ 0 ∷ 0 ∷ 13 ∷ 7 ∷ [])
-    ∷ runLine tableS (granting ++ (4 ∷ 1 ∷ [])) (replicate 4 7) gives (0 ∷ grantedNumbers)
-    ∷ runTo tableS (granting ++ (4 ∷ [])) (replicate 3 7) gives (0 ∷ 0 ∷ 0 ∷ 13 ∷ [])
-    ∷ runLine tableS (granting ++ (4 ∷ [])) (replicate 3 7) gives (0 ∷ grantedNumbers)
+    ∷ runTo tableS (granting ++ (4 ∷ 1 ∷ [])) (replicate 4 7) gives (0 ∷ 0 ∷ 0 ∷ 0 ∷ 0 ∷ 13 ∷ 7 ∷ [])
+    ∷ runLine tableS (granting ++ (4 ∷ 1 ∷ [])) (replicate 4 7) gives (0 ∷ 0 ∷ 0 ∷ grantedNumbers)
+    ∷ runTo tableS (granting ++ (4 ∷ [])) (replicate 3 7) gives (0 ∷ 0 ∷ 0 ∷ 0 ∷ 0 ∷ 13 ∷ [])
+    ∷ runLine tableS (granting ++ (4 ∷ [])) (replicate 3 7) gives (0 ∷ 0 ∷ 0 ∷ grantedNumbers)
     -- It counts for 26.
-    ∷ runTo shortRoute (6 ∷ 1 ∷ []) [] gives (26 ∷ [])
-    ∷ runTo shortRoute (5 ∷ 1 ∷ 0 ∷ 6 ∷ []) (7 ∷ []) gives (26 ∷ 7 ∷ [])
+    ∷ runTo shortRoute (6 ∷ 1 ∷ []) [] gives (26 ∷ 0 ∷ 0 ∷ [])
+    ∷ runTo shortRoute (5 ∷ 1 ∷ 0 ∷ 6 ∷ []) (7 ∷ []) gives (26 ∷ 0 ∷ 0 ∷ 7 ∷ [])
     -- No step.
-    ∷ runTo shortRoute [] [] gives (0 ∷ [])
-    ∷ runTo shortRoute [] (7 ∷ []) gives (0 ∷ 7 ∷ [])
-    ∷ runLine merging [] [] gives (0 ∷ mergingNumbers)
+    ∷ runTo shortRoute [] [] gives (0 ∷ 0 ∷ 0 ∷ [])
+    ∷ runTo shortRoute [] (7 ∷ []) gives (0 ∷ 0 ∷ 0 ∷ 7 ∷ [])
+    ∷ runLine merging [] [] gives (0 ∷ 0 ∷ 0 ∷ mergingNumbers)
     ∷ []
 
 -- The longest file that code 5 lets pass: 96 segments, 96 boxes and 16 trains with 255 route bytes each, all of them 0.
@@ -86,8 +89,9 @@ lentCases =
     -- A refused file: its text, and the answers' buffer as it was. 26 comes before it.
     ∷ printedTo (take 45 tableS) (6 ∷ []) (9 ∷ []) (replicate 2052 7) gives (0 ∷ 7 ∷ bytesOf "file 5\n" ++ replicate 2045 7)
     ∷ answersBeside (take 45 tableS) (6 ∷ []) (9 ∷ []) (replicate 2052 7) gives (0 ∷ 9 ∷ [])
+    ∷ printedTo parallelRoute (6 ∷ []) (9 ∷ []) (replicate 2052 7) gives (0 ∷ 12 ∷ bytesOf "file 28 1 2\n" ++ replicate 2040 7)
     ∷ printedTo (take 45 tableS) (6 ∷ []) (9 ∷ []) (replicate 2051 7) gives (26 ∷ 0 ∷ replicate 2051 7)
     -- The most bytes of a file that are read: one more than the longest has that code 5 lets pass.
-    ∷ codeOf (take (mostFile - 1) (longestFile ++ (0 ∷ 0 ∷ []))) gives (6 ∷ [])
-    ∷ codeOf (take mostFile (longestFile ++ (0 ∷ 0 ∷ []))) gives (5 ∷ [])
+    ∷ codeOf (take (mostFile - 1) (longestFile ++ (0 ∷ 0 ∷ []))) gives (6 ∷ 0 ∷ 0 ∷ [])
+    ∷ codeOf (take mostFile (longestFile ++ (0 ∷ 0 ∷ []))) gives (5 ∷ 0 ∷ 0 ∷ [])
     ∷ []

@@ -110,3 +110,17 @@ pub struct Outcome {
     pub code: u8,
     pub line: Line,
 }
+
+// Why a call on a table or its file is refused: the code and, with 11 and 28, the train and the place on its route, counted from 1;
+// with any other code both are 0. All three are 0 where it is not refused.
+pub struct Refusal {
+    pub code: u8,
+    pub train: u8,
+    pub place: u8,
+}
+
+// What reading or running a table file ends in: why it is refused, and the line after it.
+pub struct FileOutcome {
+    pub refusal: Refusal,
+    pub line: Line,
+}

@@ -1,7 +1,7 @@
 // A run of a table file and all its steps: the reader, then the loop over steps.
 mod steps;
 
-use rules::Outcome;
+use rules::FileOutcome;
 use traincomputer::sight;
 ghost use mathlib.Core.Path.{_≡_};
 ghost use Prim.Native.Nat.{_+_, _/_};
@@ -20,16 +20,16 @@ pub fn count(bytes: usize) -> usize
 
 // Runs a table file and all its steps, three bytes each: reads the table, takes every step, and puts the codes into the lent
 // buffer.
-pub fn run(file: &[u8], steps: &[u8], answers: &mut [u8]) -> Outcome
+pub fn run(file: &[u8], steps: &[u8], answers: &mut [u8]) -> FileOutcome
     ensures { λ r. ⌜ Ran (now (file .entry)) (now (steps .entry)) (now (answers .entry)) r (now (answers .exit)) ⌝ }
 {
     let start = reading::read(file);
-    if start.code != 0 {
+    if start.refusal.code != 0 {
         return start;
     }
     if answers.len() < count(steps.len()) {
-        return Outcome {
-            code: 26,
+        return FileOutcome {
+            refusal: placing::without_place(26),
             line: reading::empty::line(),
         };
     }
@@ -57,5 +57,8 @@ pub fn run(file: &[u8], steps: &[u8], answers: &mut [u8]) -> Outcome
     let trains_after = moved.trains;
     line.boxes = boxes_after;
     line.trains = trains_after;
-    Outcome { code: 0, line }
+    FileOutcome {
+        refusal: placing::without_place(0),
+        line,
+    }
 }

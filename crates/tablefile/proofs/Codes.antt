@@ -1,6 +1,6 @@
 -- Codes 1 to 5 by the tests that lead to them, the file's codes after them, and what a file without them has.
 use Prim.Native.Nat.{ℕ, _≤_, _<_}
-use mathlib.Core.Path.{_≡_, refl, sym, _∙_}
+use mathlib.Core.Path.{_≡_, refl, sym, _∙_, ap}
 use mathlib.Core.Bool.{true, false, not}
 use mathlib.Core.List.{List, [], _∷_, _++_}
 use native.Mathlib.Omega.{arith}
@@ -9,8 +9,9 @@ use lib.Dec.{eqb}
 use lib.ListN.{length}
 use Rattle.rules.specs.Rows.{Row, _if_, first}
 use Rattle.rules.specs.Network.{headRows, limitsFault}
-use Rattle.rules.specs.Placing.{tableCode, partsCode}
-use Rattle.rules.specs.File.{marked, versionIn, segmentCount, boxCount, trainCount, fileLength, fileCode, decode, earlyRows}
+use Rattle.rules.specs.Placing.{tableCode, partsCode, tellsPlace, refusalBy, routesFaultIn, partsRefusal, tableRefusal}
+use Rattle.rules.specs.File.{marked, versionIn, segmentCount, boxCount, trainCount, fileLength, fileCode, fileRefusal, decode, earlyRows}
+use Rattle.rules.proofs.RouteFault.{none-placeless, row-placeless}
 use Rattle.rules.proofs.Tests.{tests, facts, outside-false-iff, not-of-true, not-of-false, first-none, first-zero-iff, first-hit, first-skip, first-before}
 use Rattle.tablefile.specs.Whole.{earlyCode, Whole}
 
@@ -62,12 +63,22 @@ module _ (bytes : List ℕ) where
   unfolding fileCode earlyCode earlyRows headRows
   file-early n = first-before _ _ n
 
-  pub file-late : earlyCode bytes ≡ 0 → tableCode (decode bytes) ≡ fileCode bytes
+  -- Codes 1 to 5 are about no place of a route.
+  pub early-placeless : tellsPlace (earlyCode bytes) ≡ false
+  unfolding earlyCode earlyRows headRows tellsPlace
+  early-placeless =
+      row-placeless 1 _ _ refl (row-placeless 2 _ _ refl (row-placeless 3 _ _ refl (row-placeless 4 _ _ refl (row-placeless 5 _ _ refl none-placeless))))
+
+  file-late : earlyCode bytes ≡ 0 → tableCode (decode bytes) ≡ fileCode bytes
   unfolding fileCode tableCode partsCode decode earlyCode earlyRows headRows
   file-late e =
       let (long, (mark, (version, (limits, (exact, _))))) = simp first-zero-iff at e in
       sym (first-skip _ _ _ version (first-skip _ _ _ limits refl))
       ∙ first-skip _ _ _ long (first-skip _ _ _ mark (first-skip _ _ _ version (first-skip _ _ _ limits (first-skip _ _ _ exact refl))))
+
+  pub file-refused-late : earlyCode bytes ≡ 0 → tableRefusal (decode bytes) ≡ fileRefusal bytes
+  unfolding fileRefusal tableRefusal partsRefusal tableCode
+  file-refused-late e = ap (λ (c : ℕ). refusalBy c (routesFaultIn (decode bytes))) (file-late e)
 
   pub whole : earlyCode bytes ≡ 0 → Whole bytes
   unfolding earlyCode earlyRows headRows limitsFault

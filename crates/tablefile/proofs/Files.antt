@@ -1,6 +1,7 @@
 -- The table of a file, and the routes of its trains.
 use Prim.Native.Nat.{ℕ, _+_, _-_, _≤_, _<_}
 use mathlib.Core.Path.{_≡_, refl, sym, _∙_, ap}
+use mathlib.Core.Bool.{false}
 use mathlib.Core.List.{List, []}
 use native.Mathlib.Decide.{ℕ-discrete}
 use native.Mathlib.Omega.{arith}
@@ -9,22 +10,26 @@ use lib.Dec.{eqb}
 use lib.ListN.{length, getD, take, drop, length-drop}
 use lib.Seq.{getD-drop, drop-drop}
 use Rattle.rules.specs.declared.Table.{Table}
+use Rattle.rules.specs.declared.Refusal.{Refusal}
 use Rattle.rules.specs.Rows.{first, outside}
-use Rattle.rules.specs.Placing.{tableCode}
-use Rattle.rules.specs.File.{byteAt, trainCount, trainsFrom, trainStart, trainSize, fileCode, decode, routeCode, routePart, routeFrom}
+use Rattle.rules.specs.Placing.{withoutPlace, routesFaultIn, tellsPlace, refusalBy, tableRefusal}
+use Rattle.rules.specs.File.{byteAt, trainCount, trainsFrom, trainStart, trainSize, fileCode, fileRefusal, decode, routeCode, routeRefusal, routePart, routeFrom}
 use Rattle.rules.specs.Line.{emptyTable}
 use Rattle.rules.proofs.Tests.{or-right, outside-false-iff, first-zero-iff, first-code-iff}
+use Rattle.rules.proofs.RouteFault.{refused-nowhere}
 use Rattle.tablefile.specs.declared.FileTable.{FileTable}
 use Rattle.tablefile.specs.Whole.{earlyCode, Whole, tableIn, fileTable}
 use Rattle.tablefile.proofs.Parts.{route-in, train-room}
-use Rattle.tablefile.proofs.Codes.{file-early, file-late, whole}
+use Rattle.tablefile.proofs.Codes.{file-early, early-placeless, file-refused-late, whole}
 
 -- A file by the answer to codes 1 to 5.
 module _ (bytes : List ℕ) (early : ℕ) (e : early ≡ earlyCode bytes) where
   -- They refuse it: their code is the file's, and the table is the empty one.
   module _ (n : early ≡ 0 → ⊥) where
-    pub code-early : early ≡ fileCode bytes
-    code-early = e ∙ file-early bytes (λ z. n (e ∙ z))
+    pub refused-early : (x : Refusal) → x ≡ withoutPlace early → x ≡ fileRefusal bytes
+    unfolding fileRefusal
+    refused-early x is =
+        refused-nowhere _ _ x early is (rw e (early-placeless bytes)) (e ∙ file-early bytes (λ z. n (e ∙ z)))
 
     pub table-none : emptyTable ≡ tableIn bytes
     unfolding tableIn
@@ -39,13 +44,13 @@ module _ (bytes : List ℕ) (early : ℕ) (e : early ≡ earlyCode bytes) where
     unfolding tableIn
     table-some = rw (sym e, eq-eqb early 0 z)
 
-    pub code-late : (code : ℕ) (t : Table) → t ≡ tableIn bytes → code ≡ tableCode t → code ≡ fileCode bytes
-    code-late code t d k = k ∙ ap tableCode (d ∙ table-some) ∙ file-late bytes (sym e ∙ z)
+    pub refused-late : (x : Refusal) (t : Table) → t ≡ tableIn bytes → x ≡ tableRefusal t → x ≡ fileRefusal bytes
+    refused-late x t d k = k ∙ ap tableRefusal (d ∙ table-some) ∙ file-refused-late bytes (sym e ∙ z)
 
 module _ (bytes : List ℕ) where
-  pub file-parts : (code : ℕ) (t : Table) → code ≡ fileCode bytes → t ≡ tableIn bytes → record { code = code; table = t } ≡ fileTable bytes
+  pub file-parts : (x : Refusal) (t : Table) → x ≡ fileRefusal bytes → t ≡ tableIn bytes → record { refusal = x; table = t } ≡ fileTable bytes
   unfolding fileTable
-  file-parts code t e f = rw (e, f)
+  file-parts x t e f = rw (e, f)
 
   -- An accepted file: codes 1 to 5 let it through, and its table is the file's.
   accepted-early : fileCode bytes ≡ 0 → earlyCode bytes ≡ 0
@@ -56,43 +61,58 @@ module _ (bytes : List ℕ) where
       ]
 
   module _ (d : FileTable) (s : d ≡ fileTable bytes) where
-    pub file-code : d .code ≡ fileCode bytes
+    pub file-refusal : d .refusal ≡ fileRefusal bytes
     unfolding fileTable
-    file-code = ap (λ (x : FileTable). x .code) s
+    file-refusal = ap (λ (x : FileTable). x .refusal) s
 
-    pub file-table : d .code ≡ 0 → d .table ≡ decode bytes
+    pub file-code : d .refusal .code ≡ fileCode bytes
+    unfolding fileRefusal refusalBy
+    file-code = ap (λ (x : Refusal). x .code) file-refusal
+
+    pub file-table : d .refusal .code ≡ 0 → d .table ≡ decode bytes
     unfolding fileTable
     file-table e = ap (λ (x : FileTable). x .table) s ∙ table-some bytes _ refl (accepted-early (sym file-code ∙ e))
 
-    -- The code of train i's route.
-    module _ (i : ℕ) where
-      pub route-refused : (d .code ≡ 0 → ⊥) → d .code ≡ routeCode bytes i
-      unfolding routeCode first
-      route-refused n = rw (sym file-code, ne-eqb _ _ n)
+    -- Why train i's route is refused; x is what a function answered.
+    module _ (i : ℕ) (x : Refusal) where
+      pub route-refused : (d .refusal .code ≡ 0 → ⊥) → x ≡ d .refusal → x ≡ routeRefusal bytes i
+      unfolding fileRefusal routeRefusal routeCode first
+      route-refused n is =
+          let same : fileCode bytes ≡ routeCode bytes i = rw (ne-eqb (fileCode bytes) 0 (λ z. n (file-code ∙ z))) in
+          is ∙ file-refusal ∙ ap (λ (c : ℕ). refusalBy c (routesFaultIn (decode bytes))) same
 
-      module _ (z : d .code ≡ 0) where
+      module _ (z : d .refusal .code ≡ 0) where
         file-trains : d .table .k ≡ trainCount bytes
         unfolding decode
         file-trains = ap (λ (x : Table). x .k) (file-table z)
 
-        pub route-none : i ≡ 0 → 14 ≡ routeCode bytes i
-        unfolding routeCode first outside
-        route-none e = rw (sym file-code, eq-eqb _ _ z, eq-eqb _ _ e)
+        -- A code about no place.
+        route-coded : (c : ℕ) → tellsPlace c ≡ false → c ≡ routeCode bytes i → x ≡ withoutPlace c → x ≡ routeRefusal bytes i
+        unfolding routeRefusal
+        route-coded c p e is = refused-nowhere _ _ x c is p e
 
-        pub route-above : d .table .k < i → 14 ≡ routeCode bytes i
-        unfolding routeCode first outside
+        pub route-none : i ≡ 0 → x ≡ withoutPlace 14 → x ≡ routeRefusal bytes i
+        unfolding routeCode first outside tellsPlace
+        route-none e = route-coded 14 refl (rw (sym file-code, eq-eqb _ _ z, eq-eqb _ _ e))
+
+        pub route-above : d .table .k < i → x ≡ withoutPlace 14 → x ≡ routeRefusal bytes i
+        unfolding routeCode first outside tellsPlace
         route-above l =
             let h : trainCount bytes < i = omega (arith, file-trains) in
-            rw (sym file-code, eq-eqb _ _ z, or-right (eqb i 0) _ (lt-ltb _ _ h))
+            route-coded 14 refl (rw (sym file-code, eq-eqb _ _ z, or-right (eqb i 0) _ (lt-ltb _ _ h)))
 
-        pub route-within : (i ≡ 0 → ⊥) → i ≤ d .table .k → 0 ≡ routeCode bytes i
-        unfolding routeCode first outside
+        pub route-within : (i ≡ 0 → ⊥) → i ≤ d .table .k → x ≡ withoutPlace 0 → x ≡ routeRefusal bytes i
+        unfolding routeCode first outside tellsPlace
         route-within n l =
             let h : i ≤ trainCount bytes = omega (arith, file-trains) in
-            rw (sym file-code, eq-eqb _ _ z, ne-eqb _ _ n, le-ltb _ _ h)
+            route-coded 0 refl (rw (sym file-code, eq-eqb _ _ z, ne-eqb _ _ n, le-ltb _ _ h))
 
   -- The route of train i as a part of the file: empty where it is refused, else a part that is within the file.
   module _ (i : ℕ) where
+    pub route-code : (x : Refusal) → x ≡ routeRefusal bytes i → x .code ≡ routeCode bytes i
+    unfolding routeRefusal refusalBy
+    route-code x e = ap (λ (x : Refusal). x .code) e
+
     pub part-none : (routeCode bytes i ≡ 0 → ⊥) → [] ≡ routePart bytes i
     unfolding routePart
     part-none n = rw (ne-eqb _ _ n)

@@ -11,7 +11,7 @@ use Rattle.rules.specs.declared.BoxPlan.{BoxPlan}
 use Rattle.rules.specs.declared.TrainPlan.{TrainPlan}
 use Rattle.rules.specs.Rows.{first, listOf, joinOf, filled}
 use Rattle.rules.specs.Track.{noSegment, noBoxPlan, noTrainPlan}
-use Rattle.rules.specs.File.{segmentCount, boxCount, trainCount, fileLength, earlyRows, fileCode, decode}
+use Rattle.rules.specs.File.{segmentCount, boxCount, trainCount, fileLength, earlyRows, fileRefusal, decode}
 use Rattle.rules.specs.File.{segmentIn, planIn, trainPlanIn, routeIn}
 use Rattle.rules.specs.Line.{emptyTable}
 use Rattle.tablefile.specs.declared.FileTable.{FileTable}
@@ -43,9 +43,9 @@ routesUpTo bytes j = filled 1024 0 (joinOf j (λ i. filled 64 0 (routeIn bytes i
 unfoldable pub routesOf : List ℕ → List ℕ
 routesOf bytes = routesUpTo bytes (trainCount bytes)
 
--- The table record of a file that codes 1 to 5 let through, else the empty one; and the file's code beside it.
+-- The table record of a file that codes 1 to 5 let through, else the empty one; and beside it why the file is refused.
 unfoldable pub tableIn : List ℕ → Table
 tableIn bytes = cond (eqb (earlyCode bytes) 0) (decode bytes) emptyTable
 
 unfoldable pub fileTable : List ℕ → FileTable
-fileTable bytes = record { code = fileCode bytes; table = tableIn bytes }
+fileTable bytes = record { refusal = fileRefusal bytes; table = tableIn bytes }

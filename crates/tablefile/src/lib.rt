@@ -1,21 +1,22 @@
-// A table file: its code, 1 to 12 or 0, its table record, and the routes of its trains as parts of it.
+// A table file: why it is refused, by codes 1 to 12 and 28, its table record, and the routes of its trains as parts of it.
 pub mod head;
 mod reader;
 mod records;
 
 use rules::BoxPlan;
+use rules::Refusal;
 use rules::Segment;
 use rules::Table;
 use rules::TrainPlan;
 ghost use mathlib.Core.Path.{_≡_};
-ghost use Rattle.rules.specs.File.{routeCode, routePart, routeFrom};
+ghost use Rattle.rules.specs.File.{routeRefusal, routePart, routeFrom};
 ghost use Rattle.rules.specs.Line.{emptyTable};
 ghost use Rattle.tablefile.specs.Whole.{fileTable};
 ghost use Rattle.tablefile.specs.Part.{pointerAfter};
 
-// A file's code, and its table where codes 1 to 5 let the file through.
+// Why a file is refused, and its table where codes 1 to 5 let the file through.
 pub struct FileTable {
-    pub code: u8,
+    pub refusal: Refusal,
     pub table: Table,
 }
 
@@ -44,53 +45,64 @@ pub fn empty_table() -> Table
     }
 }
 
-// What codes 1 to 12 decide of a file.
+// What codes 1 to 12 and 28 decide of a file.
 pub fn read_table(bytes: &[u8]) -> FileTable
     ensures { λ r. ⌜ r ≡ fileTable (now (bytes .entry)) ⌝ }
 {
     let early = head::early_code(bytes);
     let table = head::table(bytes);
     if early != 0 {
-        return FileTable { code: early, table };
+        let refusal = placing::without_place(early);
+        return FileTable { refusal, table };
     }
-    let code = layout::table_code(table);
-    FileTable { code, table }
+    let refusal = layout::table_refusal(table);
+    FileTable { refusal, table }
 }
 
-// The code of a train's route: the file's code, then 14.
-fn route_code(bytes: &[u8], train: u8) -> u8
-    ensures { λ r. ⌜ r ≡ routeCode (now (bytes .entry)) train ⌝ }
+// Why a train's route is refused: as the file is, then with 14.
+fn route_refusal(bytes: &[u8], train: u8) -> Refusal
+    ensures { λ r. ⌜ r ≡ routeRefusal (now (bytes .entry)) train ⌝ }
 {
     let file = read_table(bytes);
-    let code = file.code;
-    if code != 0 {
-        return code;
+    let refusal = file.refusal;
+    if refusal.code != 0 {
+        return refusal;
     }
     if train == 0 {
-        return 14;
+        return placing::without_place(14);
     }
     let k = file.table.k;
     if train > k {
-        return 14;
+        return placing::without_place(14);
     }
-    0
+    placing::without_place(0)
 }
 
-// The route of a train as a part of the lent file, in the file's own memory, and its code. With a code the part is empty, at the
-// file's beginning.
-pub fn route<'a>(bytes: &'a [u8], train: u8, code: &mut u8) -> &'a [u8]
-    ensures { λ r. ⌜ now (code .exit) ≡ routeCode (now (bytes .entry)) train ⌝ }
-    ensures { λ r. ⌜ r .ptr ≡ pointerAfter (bytes .entry .ptr) (routeFrom (now (bytes .entry)) train) ⌝ }
-    ensures { λ r. ⌜ now r ≡ routePart (now (bytes .entry)) train ⌝ }
+// The route of the train with this number as a part of the lent file, in the file's own memory, and why it is refused: the code,
+// and the train and place of 11 and 28. With a code the part is empty, at the file's beginning.
+pub fn route<'a>(
+    bytes: &'a [u8],
+    number: u8,
+    code: &mut u8,
+    train: &mut u8,
+    place: &mut u8,
+) -> &'a [u8]
+    ensures { λ r. ⌜ now (code .exit) ≡ routeRefusal (now (bytes .entry)) number .code ⌝ }
+    ensures { λ r. ⌜ now (train .exit) ≡ routeRefusal (now (bytes .entry)) number .train ⌝ }
+    ensures { λ r. ⌜ now (place .exit) ≡ routeRefusal (now (bytes .entry)) number .place ⌝ }
+    ensures { λ r. ⌜ r .ptr ≡ pointerAfter (bytes .entry .ptr) (routeFrom (now (bytes .entry)) number) ⌝ }
+    ensures { λ r. ⌜ now r ≡ routePart (now (bytes .entry)) number ⌝ }
 {
-    let refused = route_code(bytes, train);
-    *code = refused;
-    if refused != 0 {
+    let refused = route_refusal(bytes, number);
+    *code = refused.code;
+    *train = refused.train;
+    *place = refused.place;
+    if refused.code != 0 {
         return &bytes[0..0];
     }
     let n = bytes[5];
     let m = bytes[6];
-    let part = reader::from_train(bytes, n, m, train - 1);
+    let part = reader::from_train(bytes, n, m, number - 1);
     let length = part[1] as usize;
     let end = 2 + length;
     &part[2..end]

@@ -1,4 +1,4 @@
--- Laws of what stands around a train: the kinds of boxes, and the trains that have no route.
+-- Laws of what stands around a train, and of the kinds of boxes.
 use Prim.Native.Nat.{ℕ, zero, suc, _+_, _-_, _*_, _<_}
 use mathlib.Core.Path.{_≡_, refl, sym, ap}
 use mathlib.Core.Bool.{Bool}
@@ -29,19 +29,6 @@ module _ (plans : List BoxPlan) where
   pub kind-at : (i : ℕ) → getD plans i noBoxPlan .kind ≡ kindOf plans (i + 1)
   unfolding kindOf
   kind-at i = ap (λ (p : BoxPlan). p .kind) (sym (nth-at plans i noBoxPlan))
-
--- A line has the routes of trains 1 to 16.
-pub train-none : (routes : List ℕ) (i p : ℕ) → i ≡ 0 → 0 ≡ routeAt routes i p
-unfolding routeAt
-train-none routes i p e = rw e
-
-pub train-past : (routes : List ℕ) (i p : ℕ) → length routes ≡ 1024 → 16 < i → 0 ≡ routeAt routes i p
-unfolding routeAt
-train-past routes zero p e h = refl
-train-past routes (suc i) zero e h = refl
-train-past routes (suc i) (suc p) e h =
-    let none : getD routes (64 * i + p) 0 ≡ 0 = List·getD-eq-default routes 0 (omega arith) in
-    rw none (sym (cond-same (ltb p 64) 0))
 
 -- What stands around a train, from its parts.
 pub around-of : (track : Track) (points : ℕ → Bool) (routes : List ℕ) (i : ℕ) (r : Train) (v : Around) (p q : ℕ)

@@ -1,10 +1,11 @@
 // What stands around a train.
+use placing::segment_at;
 use rules::Around;
 use rules::BoxPlan;
 use rules::Train;
 ghost use mathlib.Core.Path.{_≡_};
 ghost use Prim.Native.Nat.{_-_};
-ghost use Rattle.rules.specs.Track.{routeAt, trackIn, farBox, nearBox};
+ghost use Rattle.rules.specs.Track.{trackIn, farBox, nearBox};
 ghost use Rattle.network.specs.Column.{column};
 ghost use Rattle.traincomputer.specs.Sight.{kindOf, aroundIn};
 
@@ -20,28 +21,6 @@ pub fn kinds(plans: [BoxPlan; 96]) -> [u8; 256]
         all[i] = p.kind;
     }
     all
-}
-
-// The segment at place p, counted from 1, of the route of the train with this number; 0 where there is none.
-pub fn segment_at(routes: &[u8; 1024], number: u8, p: usize) -> u8
-    ensures { λ s. ⌜ s ≡ routeAt (now (routes .entry)) number p ⌝ }
-{
-    // As a slice, whose length the proof knows.
-    let places: &[u8] = routes;
-    if number == 0 {
-        return 0;
-    }
-    if number > 16 {
-        return 0;
-    }
-    if p == 0 {
-        return 0;
-    }
-    if p > 64 {
-        return 0;
-    }
-    let start = 64 * (number - 1) as usize;
-    places[start + p - 1]
 }
 
 // The box at the far end of segment s in direction d.

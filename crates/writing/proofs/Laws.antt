@@ -1,6 +1,7 @@
 -- Laws of bytes stored one after the other, of the lengths of a file's parts, and of what a table of code 0 has.
 use Prim.Native.Nat.{ℕ, zero, suc, _+_, _-_, _*_, _≤_, _<_}
 use mathlib.Core.Path.{_≡_, refl, sym, _∙_, ap}
+use mathlib.Core.Bool.{false}
 use mathlib.Core.List.{List, [], _∷_, _++_}
 use native.Mathlib.Numerals.{add-one}
 use native.Mathlib.Omega.{arith}
@@ -9,11 +10,13 @@ use lib.ListN.{length, getD, set, drop, length-append, List·getD-eq-default}
 use lib.Seq.{sets-eq, length-sets}
 use Rattle.rules.specs.declared.Table.{Table}
 use Rattle.rules.specs.declared.TrainPlan.{TrainPlan}
+use Rattle.rules.specs.declared.Refusal.{Refusal}
 use Rattle.rules.specs.Rows.{first, listOf, joinOf}
 use Rattle.rules.specs.Track.{noSegment, noBoxPlan, noTrainPlan, segmentAt, planAt, trainPlanAt, routeAt}
-use Rattle.rules.specs.Placing.{tableCode}
-use Rattle.rules.specs.File.{headBytes, segmentBytes, boxBytes, trainBytes, encode, writeCode, written}
+use Rattle.rules.specs.Placing.{withoutPlace, tableCode, routesFaultIn, tellsPlace, refusalBy, partsRefusal, tableRefusal}
+use Rattle.rules.specs.File.{headBytes, segmentBytes, boxBytes, trainBytes, encode, writeCode, writeRefusal, written}
 use Rattle.rules.proofs.Accepted.{accepted}
+use Rattle.rules.proofs.RouteFault.{refused-nowhere}
 use Rattle.rules.proofs.ReadBack.{segments-length, boxes-length, encoded-length}
 use Rattle.rules.proofs.Rows.{nth-at, list-none, list-more, list-length, join-none, join-more, sets-append}
 use Rattle.writing.specs.Written.{Bounded, Written}
@@ -133,7 +136,7 @@ pub no-train : (t : Table) (i : ℕ) → length (t .trains) ≤ i → getD (t .t
 no-train t i h = ap (λ (p : TrainPlan). p .length) (List·getD-eq-default (t .trains) noTrainPlan h)
 
 -- A table of code 0 has its records within their places.
-pub code-bounded : (t : Table) → tableCode t ≡ 0 → Bounded t
+code-bounded : (t : Table) → tableCode t ≡ 0 → Bounded t
 code-bounded t e =
     let a = accepted t e in
     record {
@@ -147,16 +150,41 @@ pub route-bounded : (t : Table) (i : ℕ) → Bounded t → i < t .k → getD (t
 unfolding trainPlanAt
 route-bounded t i b h = rw nth-at at (b .routes i h)
 
--- The writer's code and buffer: a table that is not accepted, a buffer that is too short, and a file written.
-pub refused : (t : Table) (buffer : List ℕ) (code : ℕ) → code ≡ tableCode t → (code ≡ 0 → ⊥) → (code ≡ writeCode t buffer) × (buffer ≡ written t buffer)
-unfolding writeCode written first
-refused t buffer code e h = rw (sym e, ne-eqb code 0 h, ne-eqb code 0 h) (refl, refl)
+-- A table by what a function answered for it.
+module _ (t : Table) (y : Refusal) (e : y ≡ tableRefusal t) where
+  table-code : y .code ≡ tableCode t
+  unfolding tableRefusal partsRefusal refusalBy tableCode
+  table-code = ap (λ (r : Refusal). r .code) e
 
-pub too-short : (t : Table) (buffer : List ℕ) → tableCode t ≡ 0 → length buffer < length (encode t) → (26 ≡ writeCode t buffer) × (buffer ≡ written t buffer)
-unfolding writeCode written first
-too-short t buffer e h = rw (e, lt-ltb (length buffer) (length (encode t)) h) (refl, refl)
+  pub bounded : y .code ≡ 0 → Bounded t
+  bounded z = code-bounded t (sym table-code ∙ z)
 
-pub file-written : (t : Table) (buffer : List ℕ) {o : List ℕ} {j : ℕ} → tableCode t ≡ 0 → length (encode t) ≤ length buffer → Written buffer 0 (encode t) j o → (0 ≡ writeCode t buffer) × (o ≡ written t buffer)
-unfolding writeCode written first
-file-written t buffer e h w =
-    rw (e, le-ltb (length buffer) (length (encode t)) h) (refl, written-whole w h)
+-- What the writer answers, x, and its buffer: a table that is not accepted, a buffer that is too short, and a file written.
+module _ (t : Table) (buffer : List ℕ) (x y : Refusal) (e : y ≡ tableRefusal t) where
+  -- The writer's code, where it is the table's and where it is another.
+  table-coded : writeCode t buffer ≡ tableCode t → x ≡ y → x ≡ writeRefusal t buffer
+  unfolding tableRefusal partsRefusal tableCode writeRefusal
+  table-coded same is = is ∙ e ∙ ap (λ (c : ℕ). refusalBy c (routesFaultIn t)) (sym same)
+
+  coded : (c : ℕ) → tellsPlace c ≡ false → c ≡ writeCode t buffer → x ≡ withoutPlace c → x ≡ writeRefusal t buffer
+  unfolding writeRefusal
+  coded c p same is = refused-nowhere _ _ x c is p same
+
+  pub refused : (y .code ≡ 0 → ⊥) → x ≡ y → (x ≡ writeRefusal t buffer) × (buffer ≡ written t buffer)
+  unfolding writeCode written first
+  refused h is =
+      let other = ne-eqb (tableCode t) 0 (λ z. h (table-code t y e ∙ z)) in
+      (table-coded (rw other) is, rw (other, other))
+
+  module _ (z : y .code ≡ 0) where
+    accepts : tableCode t ≡ 0
+    accepts = sym (table-code t y e) ∙ z
+
+    pub too-short : length buffer < length (encode t) → x ≡ withoutPlace 26 → (x ≡ writeRefusal t buffer) × (buffer ≡ written t buffer)
+    unfolding writeCode written first tellsPlace
+    too-short h is = (coded 26 refl (rw (accepts, lt-ltb _ _ h)) is, rw (accepts, lt-ltb _ _ h))
+
+    pub file-written : {o : List ℕ} {j : ℕ} → length (encode t) ≤ length buffer → Written buffer 0 (encode t) j o → x ≡ withoutPlace 0
+        → (x ≡ writeRefusal t buffer) × (o ≡ written t buffer)
+    unfolding writeCode written first tellsPlace
+    file-written h w is = (coded 0 refl (rw (accepts, le-ltb _ _ h)) is, rw (accepts, le-ltb _ _ h) (written-whole w h))

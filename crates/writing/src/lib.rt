@@ -1,10 +1,11 @@
-// The writer: a table record to the bytes of its file, in a lent buffer, by the definitions `writeCode` and `written` of `rules`.
+// The writer: a table record to the bytes of its file, in a lent buffer, by the definitions `writeRefusal` and `written` of `rules`.
 mod records;
 
+use rules::Refusal;
 use rules::Table;
 ghost use mathlib.Core.Path.{_≡_};
 ghost use lib.ListN.{length};
-ghost use Rattle.rules.specs.File.{encode, writeCode, written};
+ghost use Rattle.rules.specs.File.{encode, writeRefusal, written};
 
 // The length of the file of a table record.
 pub fn file_size(t: Table) -> usize
@@ -24,19 +25,19 @@ pub fn file_size(t: Table) -> usize
     size
 }
 
-// The writer: the table's code, then 26; on success the file at the front of the buffer, else the buffer as it was.
-pub fn write(t: Table, buffer: &mut [u8]) -> u8
-    ensures { λ r. ⌜ r ≡ writeCode t (now (buffer .entry)) ⌝ }
+// The writer: refused as the table is, then with 26; on success the file at the front of the buffer, else the buffer as it was.
+pub fn write(t: Table, buffer: &mut [u8]) -> Refusal
+    ensures { λ r. ⌜ r ≡ writeRefusal t (now (buffer .entry)) ⌝ }
     ensures { λ r. ⌜ now (buffer .exit) ≡ written t (now (buffer .entry)) ⌝ }
 {
-    let code = layout::table_code(t);
-    if code != 0 {
-        return code;
+    let refusal = layout::table_refusal(t);
+    if refusal.code != 0 {
+        return refusal;
     }
     let size = file_size(t);
     if buffer.len() < size {
-        return 26;
+        return placing::without_place(26);
     }
     records::put_file(t, buffer);
-    0
+    placing::without_place(0)
 }

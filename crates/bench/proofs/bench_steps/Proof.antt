@@ -2,7 +2,8 @@
 use mathlib.Core.Path.{refl, ap}
 use native.Mathlib.Omega.{arith}
 use borrow.Author.Needs.{needs}
-use Rattle.rules.specs.declared.Outcome.{Outcome}
+use Rattle.rules.specs.declared.FileOutcome.{FileOutcome}
+use Rattle.rules.specs.Placing.{withoutPlace}
 use Rattle.rules.specs.Line.{emptyLine}
 use Rattle.rules.specs.Run.{stepCount}
 use Rattle.running.proofs.Runs.{run-refused, run-short, run-called}
@@ -14,7 +15,7 @@ returns c =
     let read = c .before .before in
     let args = read .before .before .before .before .args in
     let refused = run-refused (args .file .now) (args .steps .now) (args .answers .now) _ (read .read .ensures) (c .if1 .taken) in
-    (ap (λ (o : Outcome). o .code) (refused .outcome), refused .buffer)
+    (ap (λ (o : FileOutcome). o .refusal .code) (refused .outcome), refused .buffer)
 
 returns-2 : tie.Need-returns-2
 unfolding stepCount
@@ -24,8 +25,8 @@ returns-2 c =
     let args = read .before .before .before .before .args in
     let short =
     run-short (args .file .now) (args .steps .now) (args .answers .now) _ (read .read .ensures) (counted .before .if1 .left)
-    (omega (arith, c .if2 .taken, counted .count .ensures)) emptyLine refl in
-    (ap (λ (o : Outcome). o .code) (short .outcome), short .buffer)
+    (omega (arith, c .if2 .taken, counted .count .ensures)) (withoutPlace 26) refl emptyLine refl in
+    (ap (λ (o : FileOutcome). o .refusal .code) (short .outcome), short .buffer)
 
 called-requires : tie.Need-called-requires
 unfolding stepCount

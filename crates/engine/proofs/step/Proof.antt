@@ -23,32 +23,32 @@ plans-sized : (c : tie.Start) → length (c .args .t1 .table .boxes) ≡ 96
 plans-sized c = search (needs, length-mapped, c .good .0 .1 .1 .0)
 
 -- The start of the call, and the step that is asked for.
-abbrev start : tie.After-parts-code → tie.Start
+abbrev start : tie.After-parts-refusal → tie.Start
 start c = c .before .before .before .before .before .before .before .before .before .before .before
 
-abbrev asked : tie.After-parts-code → Step
+abbrev asked : tie.After-parts-refusal → Step
 asked c =
     let args = start c .args in
     record { kind = args .kind; train = args .train; box = args .number }
 
-coded : (c : tie.After-parts-code)
+coded : (c : tie.After-parts-refusal)
     → let kinds = c .before .before .before .before .before in
-    Coded (start c .args .t1) (kinds .before .before .far-boxes .result) (kinds .before .far-boxes2 .result) (kinds .kinds .result) (c .parts-code .result)
+    Coded (start c .args .t1) (kinds .before .before .far-boxes .result) (kinds .before .far-boxes2 .result) (kinds .kinds .result) (c .parts-refusal .result)
 coded c =
     let kinds = c .before .before .before .before .before in
     record {
       columns = record { ends-a = kinds .before .before .far-boxes .ensures; ends-b = kinds .before .far-boxes2 .ensures; kinds-of = kinds .kinds .ensures };
       segments = segments-sized (start c);
       plans = plans-sized (start c);
-      code = c .parts-code .ensures;
+      refusal = c .parts-refusal .ensures;
     }
 
 returns : tie.Need-returns
-returns c = table-faulty (coded (c .before)) (asked (c .before)) (c .if1 .taken)
+returns c = table-faulty (coded (c .before .before)) (asked (c .before .before)) (c .if1 .taken)
 
 -- What was found of the table, where the trains are looked at.
-abbrev at-trains : tie.After-some-train-faulty → tie.After-parts-code
-at-trains c = c .before .before .before .before .before .before .before .before
+abbrev at-trains : tie.After-some-train-faulty → tie.After-parts-refusal
+at-trains c = c .before .before .before .before .before .before .before .before .before
 
 returns-2 : tie.Need-returns-2
 returns-2 c =
@@ -61,13 +61,13 @@ returns-3 c =
     box-faulty (coded (at-trains trains)) (asked (at-trains trains)) (sym (c .before .some-box-record-faulty .ensures) ∙ c .if3 .taken)
 
 -- Nothing was found.
-abbrev checked : tie.Else3 → tie.After-parts-code
+abbrev checked : tie.Else3 → tie.After-parts-refusal
 checked c = at-trains (c .before .before .before .before)
 
 passed : (c : tie.Else3)
     → let table = checked c in
     let kinds = table .before .before .before .before .before in
-    Passed (start table .args .t1) (kinds .before .before .far-boxes .result) (kinds .before .far-boxes2 .result) (kinds .kinds .result) (table .parts-code .result)
+    Passed (start table .args .t1) (kinds .before .before .far-boxes .result) (kinds .before .far-boxes2 .result) (kinds .kinds .result) (table .parts-refusal .result)
 passed c =
     let boxes = c .before in
     let trains = c .before .before .before .before in

@@ -1,17 +1,22 @@
 -- What is written is the table of what was read, and so the file's bytes.
 use borrow.Author.Needs.{needs}
+use Rattle.rules.proofs.RouteFault.{numbers}
 use Rattle.lineengine.proofs.Tables.{refused-back, accepted-back}
 use Rattle.lineengine.proofs.lineengine_write_back.Statement.{statement}
 use Rattle.lineengine.proofs.lineengine_write_back.Tie as tie
 
 returns : tie.Need-returns
-returns c = refused-back _ _ _ (c .before .read-table .ensures) (c .if1 .taken)
+returns c =
+    let (refusal, buffer) = refused-back _ _ _ (c .before .before .before .read-table .ensures) (c .if1 .taken) in
+    numbers refusal buffer
 
 returns-2 : tie.Need-returns-2
 returns-2 c =
     let wrote = c .before .before in
     let test = wrote .before .before .before in
-    accepted-back _ _ _ (test .before .read-table .ensures) (test .if1 .left) _ _ (wrote .write .ensures .0) (wrote .write .ensures .1)
+    let (written, after) = wrote .write .ensures in
+    let (refusal, buffer) = accepted-back _ _ _ (test .before .before .before .read-table .ensures) (test .if1 .left) _ _ written after in
+    numbers refusal buffer
 
 pub lineengine-write-back-spec : {M : Type 1} → statement M
 lineengine-write-back-spec =

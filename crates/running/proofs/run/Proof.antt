@@ -15,11 +15,12 @@ returns c =
 returns-2 : tie.Need-returns-2
 unfolding stepCount
 returns-2 c =
-    let counted = c .before .before in
+    let short = c .before .before in
+    let counted = short .before in
     let read = counted .before .before .before in
     let args = read .before .before .before .before .args in
     run-short (args .file .now) (args .steps .now) (args .answers .now) _ (read .read .ensures) (counted .before .if1 .left)
-    (omega (arith, c .before .if2 .taken, counted .count .ensures)) _ (c .line .ensures)
+    (omega (arith, short .if2 .taken, counted .count .ensures)) _ (c .before .without-place .ensures) _ (c .line .ensures)
 
 advance-requires : tie.Need-advance-requires
 unfolding stepCount
@@ -38,13 +39,14 @@ advance-requires c κs =
 returns-3 : tie.Need-returns-3
 unfolding stepCount
 returns-3 c =
-    let taken = c .before .before .before .before in
+    let taken = c .before .before .before .before .before in
     let enough = taken .before .before .before .before .before .before .before .before .before .before .before .before .before .before .before .before in
     let counts = enough .before in
     let read = counts .before .before .before in
     let args = read .before .before .before .before .args in
     run-done (args .file .now) (args .steps .now) (args .answers .now) _ (read .read .ensures) (counts .before .if1 .left)
-    (omega (arith, enough .if2 .left, counts .count .ensures)) _ _ (taken .advance .ensures .0) (taken .advance .ensures .1)
+    (omega (arith, enough .if2 .left, counts .count .ensures)) _ (c .without-place2 .ensures) _ _
+    (taken .advance .ensures .0) (taken .advance .ensures .1)
 
 pub run-spec : {M : Type 1} → statement M
 run-spec =
@@ -54,10 +56,12 @@ run-spec =
     returns
     (λ c κs. search needs)
     (λ c κs. search needs)
+    (λ c κs. search needs)
     returns-2
     (λ c κs. search needs)
     (λ c κs. search needs)
     (λ c κs. search needs)
     advance-requires
+    (λ c κs. search needs)
     (λ c. search needs)
     returns-3)

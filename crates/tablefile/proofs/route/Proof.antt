@@ -5,21 +5,24 @@ use native.Mathlib.Omega.{arith}
 use borrow.Author.Needs.{needs}
 use lib.ListN.{length, getD}
 use Rattle.rules.specs.File.{byteAt, segmentCount, boxCount, routeCode}
+use Rattle.rules.proofs.RouteFault.{numbers}
 use Rattle.tablefile.proofs.Parts.{whole-boxes}
 use Rattle.tablefile.proofs.Placed.{placed, placed-further}
-use Rattle.tablefile.proofs.Files.{within, part-none, from-none, part-whole, part-place, part-room, part-some, from-some}
+use Rattle.tablefile.proofs.Files.{within, route-code, part-none, from-none, part-whole, part-place, part-room, part-some, from-some}
 use Rattle.tablefile.proofs.route.Statement.{statement}
 use Rattle.tablefile.proofs.route.Tie as tie
 
 returns : tie.Need-returns
 returns c =
-    let code = c .before .before .route-code .ensures in
-    let refused : routeCode _ _ ≡ 0 → ⊥ = λ e. c .before .if1 .taken (code ∙ e) in
-    (code, (placed (c .before .before .before .before .args .bytes .ptr) _ 0 (from-none _ _ refused), part-none _ _ refused))
+    let refusal = c .before .before .before .route-refusal .ensures in
+    let refused : routeCode _ _ ≡ 0 → ⊥ = λ e. c .before .if1 .taken (route-code _ _ _ refusal ∙ e) in
+    numbers refusal (placed (c .before .before .before .before .before .args .bytes .ptr) _ 0 (from-none _ _ refused), part-none _ _ refused)
 
 -- The route's code is 0 past the test.
-taken : (c : tie.Else1) → routeCode (c .before .before .before .args .bytes .now) (c .before .before .before .args .train) ≡ 0
-taken c = sym (c .before .route-code .ensures) ∙ c .if1 .left
+taken : (c : tie.Else1) →
+    let start = c .before .before .before .before in
+    routeCode (start .args .bytes .now) (start .args .number) ≡ 0
+taken c = sym (route-code _ _ _ (c .before .before .route-refusal .ensures)) ∙ c .if1 .left
 
 read-n : tie.Need-shared-slice-read-n
 read-n c = omega (arith, whole-boxes _ (part-whole _ _ (taken (c .before))))
@@ -45,10 +48,9 @@ returns-2 c =
     let f = c .before .before in
     let size = getD (f .from-train .result .now) 1 0 in
     let z = taken (f .before .before .before) in
-    let rest = f .from-train .ensures in (
-      f .before .before .before .before .route-code .ensures,
-      (placed-further _ _ _ _ 2 (rest .pointer) (from-some _ _ z), part-some _ _ z _ (rest .left) (2 + size - 2) (omega arith)),
-    )
+    let rest = f .from-train .ensures in
+    numbers (f .before .before .before .before .before .route-refusal .ensures)
+    (placed-further _ _ _ _ 2 (rest .pointer) (from-some _ _ z), part-some _ _ z _ (rest .left) (2 + size - 2) (omega arith))
 
 pub route-spec : {M : Type 1} → statement M
 route-spec =

@@ -3,9 +3,9 @@ use mathlib.Core.Path.{refl, sym}
 use native.Mathlib.Omega.{arith}
 use borrow.Author.Needs.{needs}
 use Rattle.rules.proofs.Rows.{route-index, route-before, route-past}
-use Rattle.traincomputer.proofs.Sights.{train-none, train-past}
-use Rattle.traincomputer.proofs.sight.segment_at.Statement.{statement}
-use Rattle.traincomputer.proofs.sight.segment_at.Tie as tie
+use Rattle.placing.proofs.Routes.{train-none, train-past}
+use Rattle.placing.proofs.segment_at.Statement.{statement}
+use Rattle.placing.proofs.segment_at.Tie as tie
 
 returns : tie.Need-returns
 returns c = train-none _ _ _ (c .if1 .taken)

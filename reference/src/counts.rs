@@ -1,13 +1,35 @@
 //! Counts of codes, as the comparing programs print them.
 
-/// Files by code 0 to 12, and steps by code 0 and 13 to 25.
-pub fn print_codes(files: &[usize], steps: &[usize]) {
+/// Codes are below this.
+pub const CODES: usize = 29;
+/// How often each code came.
+pub type Counts = [usize; CODES];
+/// The codes that refuse a file, in the order of their numbers.
+pub const FILE_CODES: [u8; 13] = [1, 2, 3, 4, 5, 6, 7, 8, 9, 10, 11, 12, 28];
+
+/// Whether a code refuses a file.
+pub fn of_file(code: u8) -> bool {
+    FILE_CODES.contains(&code)
+}
+
+/// 0 and the codes that refuse a file.
+pub fn file_codes() -> impl Iterator<Item = usize> {
+    std::iter::once(0).chain(FILE_CODES.map(usize::from))
+}
+
+/// The codes of steps from an accepted file on: 0 and 13 to 25.
+pub fn step_codes() -> impl Iterator<Item = usize> {
+    std::iter::once(0).chain(13..=25)
+}
+
+/// Files and steps by code.
+pub fn print_codes(files: &Counts, steps: &Counts) {
     println!("code  files");
-    for (code, count) in files.iter().enumerate() {
-        println!("{code:4} {count:8}");
+    for code in file_codes() {
+        println!("{code:4} {:8}", files[code]);
     }
     println!("code  steps");
-    for code in std::iter::once(0).chain(13..=25) {
+    for code in step_codes() {
         println!("{code:4} {:8}", steps[code]);
     }
 }

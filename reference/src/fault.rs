@@ -155,25 +155,49 @@ faults! {
         TrailingBytesTaken,
         /// Two trains with one first segment are accepted.
         SameFirstTaken,
-        /// Routes may jump.
+        /// Routes may jump: 28 is not looked at.
         BrokenRouteTaken,
         /// Routes are checked in direction 0 only.
         RouteDirectionIgnored,
         /// A segment end whose box does not list it is accepted.
         UnlistedEndTaken,
-        /// 10 and 11 are looked at train by train.
+        /// 10, 11 and 28 are looked at train by train.
         TrainByTrain,
-        /// 12 is looked at before 11.
+        /// 12 is looked at before the search for 11 and 28.
         FirstBeforeRoute,
         /// 9 is looked at before 8.
         LoopBeforeListing,
         /// A route length outside 1 to 64 is looked at before the file length.
         RouteLengthBeforeFileLength,
     }
+    "Train and place of a refused route" {
+        /// 28 is looked for in all trains before 11 in any.
+        JumpsOfAllFirst,
+        /// 11 is looked for in all trains before 28 in any.
+        NumbersOfAllFirst,
+        /// At one place 28 is looked at before 11.
+        JumpBeforeNumber,
+        /// The route of the last train is not searched.
+        LastTrainNotSearched,
+        /// Trains are counted from 0.
+        TrainsFromZero,
+        /// Places on a route are counted from 0.
+        PlacesFromZero,
+        /// 28 is told at the place before, of the segment that is not followed.
+        JumpAtPlaceBefore,
+        /// 10 tells its train too.
+        ShapeTellsTrain,
+    }
+    "Line record" {
+        /// 27 does not ask 28 of a route as it stands.
+        RouteInForceMayJump,
+        /// 27 does not ask 28 of the table part.
+        TableMayJump,
+    }
 }
 
 impl Fault {
-    /// Whether the fault is in the reader rather than in the steps.
+    /// Whether the fault is in the reader.
     pub fn in_reader(self) -> bool {
         matches!(
             self,
@@ -189,7 +213,25 @@ impl Fault {
                 | Fault::FirstBeforeRoute
                 | Fault::LoopBeforeListing
                 | Fault::RouteLengthBeforeFileLength
+                | Fault::JumpsOfAllFirst
+                | Fault::NumbersOfAllFirst
+                | Fault::JumpBeforeNumber
+                | Fault::LastTrainNotSearched
+                | Fault::TrainsFromZero
+                | Fault::PlacesFromZero
+                | Fault::JumpAtPlaceBefore
+                | Fault::ShapeTellsTrain
         )
+    }
+
+    /// Whether the fault is in the check of a line record.
+    pub fn in_record(self) -> bool {
+        matches!(self, Fault::RouteInForceMayJump | Fault::TableMayJump)
+    }
+
+    /// Whether the fault is in the start or in the steps.
+    pub fn in_steps(self) -> bool {
+        !self.in_reader() && !self.in_record()
     }
 }
 

@@ -14,6 +14,7 @@ pub mod line_check;
 pub mod numbers;
 pub mod printout;
 pub mod record;
+pub mod refusal;
 pub mod step;
 pub mod step_move;
 pub mod step_request;

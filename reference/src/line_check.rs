@@ -3,16 +3,16 @@
 use crate::fault::Fault;
 use crate::line::*;
 use crate::step_request::request_stopped;
-use crate::table_check::{route_code, table_code_with};
+use crate::table_check::{check_table_with, route_code};
 
 /// The clause of code 27 that a record breaks.
 #[derive(Clone, Copy, Debug, PartialEq, Eq)]
 pub enum RecordFault {
-    /// The table part fails with this code (3, 4 or 6 to 12).
+    /// The table part fails with this code (3, 4, 6 to 12 or 28).
     TablePart(u8),
     /// Not one box state per box or one train state per train.
     Extent,
-    /// The route of a train as it stands fails 10 or 11.
+    /// The route of a train as it stands fails 10, 11 or 28.
     Route(u8),
     /// Front or tail is not on the route.
     OutsideRoute,
@@ -41,11 +41,12 @@ pub fn record_fault(line: &Line) -> Option<RecordFault> {
     record_fault_with(line, Fault::None)
 }
 
-/// As `record_fault`, with a fault of the table part's codes switched on.
+/// As `record_fault`, with a fault switched on.
 pub fn record_fault_with(line: &Line, fault: Fault) -> Option<RecordFault> {
-    match table_code_with(&line.table, fault) {
-        0 => {}
-        code => return Some(RecordFault::TablePart(code)),
+    match check_table_with(&line.table, fault) {
+        Err(refusal) if refusal.code == 28 && fault == Fault::TableMayJump => {}
+        Err(refusal) => return Some(RecordFault::TablePart(refusal.code)),
+        Ok(()) => {}
     }
     if line.boxes.len() != line.table.boxes.len() || line.trains.len() != line.table.trains.len() {
         return Some(RecordFault::Extent);
@@ -53,6 +54,7 @@ pub fn record_fault_with(line: &Line, fault: Fault) -> Option<RecordFault> {
     for t in &line.trains {
         match route_code(&line.table, t.direction, &t.route) {
             0 => {}
+            28 if fault == Fault::RouteInForceMayJump => {}
             code => return Some(RecordFault::Route(code)),
         }
         if t.covered == 0 || t.covered > 2 {

@@ -12,7 +12,7 @@ pub const MAX_STEPS: usize = 65_535;
 pub fn printout(file: &[u8], input: &[u8]) -> Vec<u8> {
     let mut text = String::new();
     match read_table(file) {
-        Err(code) => add(&mut text, format_args!("file {code}")),
+        Err(refusal) => add(&mut text, format_args!("file {refusal}")),
         Ok(table) => run(&mut text, &mut start_line(&table), input),
     }
     text.into_bytes()

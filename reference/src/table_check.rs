@@ -1,67 +1,62 @@
-//! The rules of the table part: codes 3, 4 and 6 to 12, one function per
-//! code, each over all records before the next code is looked at.
+//! The rules of the table part: codes 3, 4, 6 to 12 and 28, each over all records before the next code is
+//! looked at; 11 and 28 together, in one search.
 
 use crate::fault::Fault;
+use crate::refusal::Refusal;
 use crate::table::*;
 
-/// The first code that stops the table part, or 0.
-pub fn table_code(table: &Table) -> u8 {
-    table_code_with(table, Fault::None)
+/// Whether the table part is accepted; the first refusal where it is not.
+pub fn check_table(table: &Table) -> Result<(), Refusal> {
+    check_table_with(table, Fault::None)
 }
 
-/// As `table_code`, with a fault switched on.
-pub fn table_code_with(table: &Table, fault: Fault) -> u8 {
-    if version_fails(table) {
-        return 3;
-    }
-    if counts_fail(table) {
-        return 4;
-    }
-    body_code_with(table, fault)
+/// As `check_table`, with a fault switched on.
+pub fn check_table_with(table: &Table, fault: Fault) -> Result<(), Refusal> {
+    stop(version_fails(table), 3)?;
+    stop(counts_fail(table), 4)?;
+    check_body_with(table, fault)
 }
 
-/// Codes 6 to 12 only, for a table whose head was checked before.
-pub fn body_code_with(table: &Table, fault: Fault) -> u8 {
-    if fault == Fault::ReaderRefusesAll {
-        return 6;
+/// Codes 6 to 12 and 28 only, for a table whose head was checked before.
+pub fn check_body_with(table: &Table, fault: Fault) -> Result<(), Refusal> {
+    stop(fault == Fault::ReaderRefusesAll, 6)?;
+    stop(table.segments.iter().any(|s| ends_fail(table, s)), 6)?;
+    stop(table.boxes.iter().any(|b| box_fails(table, b)), 7)?;
+    stop(fault == Fault::LoopBeforeListing && has_loop(table), 9)?;
+    stop(listing_fails(table, fault), 8)?;
+    stop(fault != Fault::LoopTaken && has_loop(table), 9)?;
+    check_trains(table, fault)
+}
+
+/// Refused by the code where its condition holds.
+fn stop(condition: bool, code: u8) -> Result<(), Refusal> {
+    if condition {
+        Err(Refusal::by(code))
+    } else {
+        Ok(())
     }
-    if table.segments.iter().any(|s| ends_fail(table, s)) {
-        return 6;
-    }
-    if table.boxes.iter().any(|b| box_fails(table, b)) {
-        return 7;
-    }
-    if fault == Fault::LoopBeforeListing && has_loop(table) {
-        return 9;
-    }
-    if listing_fails(table, fault) {
-        return 8;
-    }
-    if fault != Fault::LoopTaken && has_loop(table) {
-        return 9;
-    }
+}
+
+/// Codes 10 to 12 and 28, for a network that was checked before.
+fn check_trains(table: &Table, fault: Fault) -> Result<(), Refusal> {
     if fault == Fault::TrainByTrain {
-        for train in &table.trains {
-            let code = route_code(table, train.direction, &train.route);
-            if code != 0 {
-                return code;
-            }
+        for (train, entry) in (1..).zip(&table.trains) {
+            stop(shape_fails(entry.direction, &entry.route), 10)?;
+            search_train(table, train, entry, &[11, 28], fault)?;
         }
     }
-    let trains = || table.trains.iter();
-    if trains().any(|t| route_shape_fails(t.direction, &t.route)) {
-        return 10;
+    if let Some(i) = table.trains.iter().position(|t| shape_fails(t.direction, &t.route)) {
+        let train = if fault == Fault::ShapeTellsTrain { i as u8 + 1 } else { 0 };
+        return Err(Refusal { train, ..Refusal::by(10) });
     }
-    if fault == Fault::FirstBeforeRoute && first_segments_clash(table) {
-        return 12;
+    stop(fault == Fault::FirstBeforeRoute && first_segments_clash(table), 12)?;
+    match fault {
+        Fault::JumpsOfAllFirst => search(table, &[28], fault).and(search(table, &[11], fault))?,
+        Fault::NumbersOfAllFirst => search(table, &[11], fault).and(search(table, &[28], fault))?,
+        Fault::JumpBeforeNumber => search(table, &[28, 11], fault)?,
+        _ => search(table, &[11, 28], fault)?,
     }
-    if trains().any(|t| route_follow_fails(table, t.direction, &t.route, fault)) {
-        return 11;
-    }
-    if fault != Fault::SameFirstTaken && first_segments_clash(table) {
-        return 12;
-    }
-    0
+    stop(fault != Fault::SameFirstTaken && first_segments_clash(table), 12)
 }
 
 /// 3: a version that is not read, or a count too large for its byte.
@@ -154,28 +149,64 @@ pub fn has_loop(table: &Table) -> bool {
     }
 }
 
-/// Codes 10 and 11 of one route.
+/// The code 10, 11 or 28 that stops one route, or 0.
 pub fn route_code(table: &Table, direction: u8, route: &[u8]) -> u8 {
-    if route_shape_fails(direction, route) {
-        10
-    } else if route_follow_fails(table, direction, route, Fault::None) {
-        11
-    } else {
-        0
+    if shape_fails(direction, route) {
+        return 10;
     }
+    route_fault(table, direction, route, &[11, 28], Fault::None).map_or(0, |(code, _)| code)
 }
 
 /// 10: a direction above 1, or a length outside 1 to 64.
-fn route_shape_fails(direction: u8, route: &[u8]) -> bool {
+fn shape_fails(direction: u8, route: &[u8]) -> bool {
     direction > 1 || route.is_empty() || route.len() > MAX_ROUTE
 }
 
-/// 11: a segment that the table lacks, or one not following its fore-runner.
-fn route_follow_fails(table: &Table, direction: u8, route: &[u8], fault: Fault) -> bool {
-    let direction = if fault == Fault::RouteDirectionIgnored { 0 } else { direction };
-    route.iter().any(|&s| table.segment(s).is_none())
-        || (fault != Fault::BrokenRouteTaken
-            && route.windows(2).any(|w| !table.follows(w[0], w[1], direction)))
+/// The search: trains in file order, each route from its start, at one place the codes in this order.
+fn search(table: &Table, codes: &[u8], fault: Fault) -> Result<(), Refusal> {
+    let searched = match fault {
+        Fault::LastTrainNotSearched => table.trains.len().saturating_sub(1),
+        _ => table.trains.len(),
+    };
+    let mut trains = (1..).zip(&table.trains[..searched]);
+    trains.try_for_each(|(train, entry)| search_train(table, train, entry, codes, fault))
+}
+
+/// The search on the route of one train.
+fn search_train(table: &Table, train: u8, entry: &TrainEntry, codes: &[u8], fault: Fault) -> Result<(), Refusal> {
+    let train = if fault == Fault::TrainsFromZero { train - 1 } else { train };
+    match route_fault(table, entry.direction, &entry.route, codes, fault) {
+        Some((code, place)) => Err(Refusal { code, train, place }),
+        None => Ok(()),
+    }
+}
+
+/// The first of these codes on a route that 10 lets through, with its place from 1.
+fn route_fault(table: &Table, direction: u8, route: &[u8], codes: &[u8], fault: Fault) -> Option<(u8, u8)> {
+    let mut all = (1..=route.len()).flat_map(|place| codes.iter().map(move |&code| (code, place)));
+    let (code, place) = all.find(|&(code, place)| match (code, &route[..place]) {
+        (11, &[.., segment]) => table.segment(segment).is_none(),
+        (28, &[.., before, segment]) => jumps(table, direction, before, segment, fault),
+        _ => false,
+    })?;
+    let place = place as u8;
+    Some(match fault {
+        Fault::PlacesFromZero => (code, place - 1),
+        Fault::JumpAtPlaceBefore if code == 28 => (code, place - 1),
+        _ => (code, place),
+    })
+}
+
+/// 28: a segment that does not follow the one before.
+fn jumps(table: &Table, direction: u8, before: u8, segment: u8, fault: Fault) -> bool {
+    let known = |number: u8| table.segment(number).is_some();
+    match fault {
+        Fault::BrokenRouteTaken => false,
+        Fault::RouteDirectionIgnored => !table.follows(before, segment, 0),
+        // What is no segment at all is left to 11.
+        Fault::JumpsOfAllFirst => known(before) && known(segment) && !table.follows(before, segment, direction),
+        _ => !table.follows(before, segment, direction),
+    }
 }
 
 /// 12: two trains with one first segment.

@@ -1,9 +1,10 @@
-//! From file bytes to a table: codes 1 to 5 here, 6 to 12 by the rules of
-//! the table part.
+//! From file bytes to a table: codes 1 to 5 here, 6 to 12 and 28 by the rules
+//! of the table part.
 
 use crate::fault::Fault;
+use crate::refusal::Refusal;
 use crate::table::*;
-use crate::table_check::{body_code_with, counts_fit};
+use crate::table_check::{check_body_with, counts_fit};
 
 /// The three bytes a table file begins with.
 pub const MARK: [u8; 3] = [0x4E, 0x45, 0x54];
@@ -29,59 +30,53 @@ impl<'a> Reader<'a> {
     }
 }
 
-/// Reads a table, or gives the code that refuses the file.
-pub fn read_table(bytes: &[u8]) -> Result<Table, u8> {
+/// Reads a table, or says why the file is refused.
+pub fn read_table(bytes: &[u8]) -> Result<Table, Refusal> {
     read_table_with(bytes, Fault::None)
 }
 
 /// As `read_table`, with a fault switched on.
-pub fn read_table_with(bytes: &[u8], fault: Fault) -> Result<Table, u8> {
+pub fn read_table_with(bytes: &[u8], fault: Fault) -> Result<Table, Refusal> {
     let (version, n, m, k) = read_head(bytes)?;
     let mut reader = Reader { bytes, next: 8 };
-    let table = read_body(&mut reader, version, n, m, k).ok_or(5)?;
+    let table = read_body(&mut reader, version, n, m, k).ok_or(Refusal::by(5))?;
     let short_or_long = |t: &TrainEntry| t.route.is_empty() || t.route.len() > MAX_ROUTE;
     if fault == Fault::RouteLengthBeforeFileLength && table.trains.iter().any(short_or_long) {
-        return Err(10);
+        return Err(Refusal::by(10));
     }
     if reader.next != bytes.len() && fault != Fault::TrailingBytesTaken {
-        return Err(5);
+        return Err(Refusal::by(5));
     }
-    match body_code_with(&table, fault) {
-        0 => Ok(table),
-        code => Err(code),
-    }
+    check_body_with(&table, fault)?;
+    Ok(table)
 }
 
-/// The route of a train as a part of the lent file. `None` if the file is
-/// refused or has no such train.
-pub fn route_in_file(bytes: &[u8], train: u8) -> Option<&[u8]> {
-    let table = read_table(bytes).ok()?;
-    if train == 0 || train as usize > table.trains.len() {
-        return None;
-    }
+/// The route of a train as a part of the lent file. Refused: as the file is,
+/// or by 14 where it has no such train.
+pub fn route_in_file(bytes: &[u8], train: u8) -> Result<&[u8], Refusal> {
+    let table = read_table(bytes)?;
     let next = 8 + 2 * table.segments.len() + 5 * table.boxes.len();
     let mut reader = Reader { bytes, next };
-    for _ in 1..train {
-        reader.train()?;
-    }
-    reader.train().map(|(_, route)| route)
+    let routes = table.trains.iter().map_while(|_| reader.train());
+    let (_, route) = (1..).zip(routes).find(|&(number, _)| number == train).ok_or(Refusal::by(14))?.1;
+    Ok(route)
 }
 
 /// Codes 1 to 4; version and the three counts.
-fn read_head(bytes: &[u8]) -> Result<(u16, usize, usize, usize), u8> {
+fn read_head(bytes: &[u8]) -> Result<(u16, usize, usize, usize), Refusal> {
     if bytes.len() < 8 {
-        return Err(1);
+        return Err(Refusal::by(1));
     }
     if bytes[..3] != MARK {
-        return Err(2);
+        return Err(Refusal::by(2));
     }
     let version = u16::from_be_bytes([bytes[3], bytes[4]]);
     if version != VERSION {
-        return Err(3);
+        return Err(Refusal::by(3));
     }
     let (n, m, k) = (bytes[5] as usize, bytes[6] as usize, bytes[7] as usize);
     if !counts_fit(n, m, k) {
-        return Err(4);
+        return Err(Refusal::by(4));
     }
     Ok((version, n, m, k))
 }

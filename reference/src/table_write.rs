@@ -1,20 +1,18 @@
 //! From a table to a lent buffer.
 
+use crate::refusal::Refusal;
 use crate::table::*;
-use crate::table_check::table_code;
+use crate::table_check::check_table;
 use crate::table_read::MARK;
 
 /// Writes the file of the table to the front of the buffer and gives its
-/// length. Refused: the code, the buffer as it was. Bytes beyond the file
+/// length. Refused: why, and the buffer as it was. Bytes beyond the file
 /// stay as they were.
-pub fn write_table(table: &Table, buffer: &mut [u8]) -> Result<usize, u8> {
-    match table_code(table) {
-        0 => {}
-        code => return Err(code),
-    }
+pub fn write_table(table: &Table, buffer: &mut [u8]) -> Result<usize, Refusal> {
+    check_table(table)?;
     let file = file_bytes(table);
     match buffer.get_mut(..file.len()) {
-        None => Err(26),
+        None => Err(Refusal::by(26)),
         Some(front) => {
             front.copy_from_slice(&file);
             Ok(file.len())

@@ -9,7 +9,7 @@ use reference::line::{start_line, start_line_with, Line};
 use reference::line_check::record_code;
 use reference::step::{step, step_with, Step};
 use reference::table::Table;
-use reference::table_check::table_code;
+use reference::table_check::check_table;
 use std::collections::{BTreeSet, HashSet};
 
 /// All steps that differ in what they do, and some garbage.
@@ -29,7 +29,7 @@ fn all_steps(table: &Table) -> Vec<Step> {
 
 /// Searches all reachable lines; gives their number and the codes seen.
 fn search(table: &Table) -> (usize, BTreeSet<u8>) {
-    assert_eq!(table_code(table), 0);
+    assert_eq!(check_table(table), Ok(()));
     let start = start_line(table);
     let first = Checker::new(table, &start);
     assert!(first.state_clauses(&start).is_empty());

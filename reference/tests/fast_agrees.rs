@@ -3,6 +3,7 @@
 
 mod common;
 use common::table_96;
+use reference::counts::{file_codes, step_codes, Counts, CODES};
 use reference::fast;
 use reference::fault::{Fault, FAULTS};
 use reference::generate::damage::damaged_file;
@@ -12,9 +13,10 @@ use reference::generate::prng::Prng;
 use reference::generate::steps::drive;
 use reference::generate::tables::{accepted_table, largest_table};
 use reference::line::{start_line, start_line_with, Line};
-use reference::line_check::record_code;
+use reference::line_check::record_fault_with;
 use reference::numbers::{box_numbers, train_numbers};
 use reference::record::Record;
+use reference::refusal::{code_of, Refusal};
 use reference::step::{step, step_with, Step};
 use reference::table::{Table, BORDER, LINK, MAX_BOXES, MAX_TRAINS};
 use reference::table_read::{read_table, read_table_with};
@@ -29,17 +31,17 @@ fn same(line: &Line, fast: &fast::Line) -> bool {
 /// The fast start line of an accepted file.
 fn fast_start(file: &[u8]) -> fast::Line {
     let mut line = fast::Line::NONE;
-    assert_eq!(line.read(file), 0);
+    assert_eq!(line.read(file), Ok(()));
     line
 }
 
 /// Whether the fast engine reads the file as the readable one does with a fault.
 fn reads_alike(file: &[u8], fault: Fault) -> bool {
     let mut line = fast::Line::NONE;
-    let code = line.read(file);
+    let read = line.read(file);
     match read_table_with(file, fault) {
-        Ok(table) => code == 0 && same(&start_line(&table), &line),
-        Err(refused) => code == refused,
+        Ok(table) => read == Ok(()) && same(&start_line(&table), &line),
+        Err(refusal) => read == Err(refusal),
     }
 }
 
@@ -52,7 +54,7 @@ fn runs_alike(table: &Table, steps: &[u8], fault: Fault) -> bool {
         .collect();
     let mut answers = vec![99; codes.len()];
     let mut fast = fast_start(&file_bytes(table));
-    fast.run(steps, &mut answers) == 0 && answers == codes && same(&line, &fast)
+    fast.run(steps, &mut answers) == Ok(()) && answers == codes && same(&line, &fast)
 }
 
 /// Whether the fast engine writes the record's table as the readable one does, with rooms around the length.
@@ -72,7 +74,7 @@ fn numbers(line: &fast::Line) -> Vec<u8> {
 
 /// Whether made-up records, one for each aim and more that pass 27, have the same code of a checked step, which is
 /// counted, and the same record after it, and are written alike.
-fn records_alike(case: u64, fault: Fault, codes: &mut [u32; 28]) -> bool {
+fn records_alike(case: u64, fault: Fault, codes: &mut Counts) -> bool {
     let mut rng = Prng::for_case(34, case);
     let mut reached = start_line(&accepted_table(&mut rng));
     drive(&mut rng, &mut reached, case as usize % 200);
@@ -84,9 +86,9 @@ fn records_alike(case: u64, fault: Fault, codes: &mut [u32; 28]) -> bool {
         changes.iter().for_each(|&change| record.change(change));
         let (mut line, mut fast) = (record.line(), record.fast_line());
         let bytes = step_on(&mut rng, if aim == Aim::Nothing { &line } else { &reached }, &changes);
-        let code = match record_code(&line) {
-            0 => step_with(&mut line, bytes, fault),
-            code => code,
+        let code = match record_fault_with(&line, fault) {
+            None => step_with(&mut line, bytes, fault),
+            Some(_) => 27,
         };
         codes[usize::from(code)] += 1;
         let answer = fast.step_checked(bytes);
@@ -100,7 +102,7 @@ fn records_alike(case: u64, fault: Fault, codes: &mut [u32; 28]) -> bool {
 
 #[test]
 fn files() {
-    let mut codes = [0; 13];
+    let mut codes = [0; CODES];
     for case in 0..300 {
         let mut rng = Prng::for_case(31, case);
         let table = match case % 10 {
@@ -110,12 +112,12 @@ fn files() {
         for aim in 0..40 {
             let file = damaged_file(&mut rng, &table, aim);
             assert!(reads_alike(&file, Fault::None), "{file:?}");
-            codes[usize::from(read_table(&file).err().unwrap_or(0))] += 1;
+            codes[usize::from(code_of(&read_table(&file)))] += 1;
         }
         let file = file_bytes(&table);
         assert!(reads_alike(&file, Fault::None) && writes_alike(&table, &fast_start(&file)));
     }
-    assert!(codes.iter().all(|&count| count > 100), "{codes:?}");
+    assert!(file_codes().all(|code| codes[code] > 100), "{codes:?}");
 }
 
 /// Every change of a byte of a small file, and every front part of a large one.
@@ -149,7 +151,7 @@ fn loops() {
                 table.boxes.extend(common::boxes(&[[LINK, before + i + 1, before + last + 1, 0, 0]]));
             }
             let file = file_bytes(&table);
-            assert_eq!(read_table(&file), Err(9));
+            assert_eq!(read_table(&file), Err(Refusal::by(9)));
             assert!(reads_alike(&file, Fault::None));
         }
     }
@@ -170,12 +172,17 @@ fn runs() {
 #[test]
 fn runs_refused() {
     let mut answers = [99; 3];
-    assert_eq!(fast::run(&common::S[..45], &[0; 3], &mut answers), 5);
+    assert_eq!(fast::run(&common::S[..45], &[0; 3], &mut answers), Err(Refusal::by(5)));
+    let jump = file_bytes(&common::s_with(&[(0, &[1, 2, 4]), (1, &[4, 1])]));
+    for length in 0..20 {
+        let refusal = Refusal { code: 28, train: 2, place: 2 };
+        assert_eq!(fast::run(&jump, &vec![0; length], &mut answers), Err(refusal));
+    }
     for length in 10..20 {
-        assert_eq!(fast::run(&common::S, &vec![0; length], &mut answers), 26);
+        assert_eq!(fast::run(&common::S, &vec![0; length], &mut answers), Err(Refusal::by(26)));
     }
     assert_eq!(answers, [99; 3]);
-    assert_eq!(fast::run(&common::S, &[1, 1, 2, 5], &mut answers), 0);
+    assert_eq!(fast::run(&common::S, &[1, 1, 2, 5], &mut answers), Ok(()));
     assert_eq!(answers, [0, 13, 99]);
 }
 
@@ -186,13 +193,13 @@ fn lines_are_used_again() {
     for case in 0..200 {
         let mut rng = Prng::for_case(33, case);
         let mut line = start_line(&accepted_table(&mut rng));
-        assert_eq!(fast.read(&file_bytes(&line.table)), 0);
+        assert_eq!(fast.read(&file_bytes(&line.table)), Ok(()));
         assert!(same(&line, &fast));
         for (bytes, code) in drive(&mut rng, &mut line, 200) {
             assert_eq!(fast.step(bytes), code);
         }
-        assert_ne!(fast.read(&[0; 8]), 0);
-        assert_ne!(fast.read(&file_bytes(&line.table)[8..]), 0);
+        assert!(fast.read(&[0; 8]).is_err());
+        assert!(fast.read(&file_bytes(&line.table)[8..]).is_err());
         assert!(same(&line, &fast));
     }
 }
@@ -201,10 +208,10 @@ fn lines_are_used_again() {
 fn records() {
     let mut none = fast::Line::NONE;
     assert_eq!(none.step_checked([0; 3]), 27);
-    let mut codes = [0; 28];
+    let mut codes = [0; CODES];
     assert!((0..800).all(|case| records_alike(case, Fault::None, &mut codes)));
-    let seen = |code: usize| code == 0 || code > 12 && code != 26;
-    assert!((0..28).all(|code| (codes[code] > 20) == seen(code)), "{codes:?}");
+    let seen = |code: usize| code == 27 || step_codes().any(|of_step| of_step == code);
+    assert!((0..CODES).all(|code| (codes[code] > 20) == seen(code)), "{codes:?}");
 }
 
 /// Steps that change the line are taken by checked calls as by plain ones.
@@ -222,27 +229,26 @@ fn checked_steps() {
     }
 }
 
-/// The comparison finds every fault of the readable engine that shows at all: the last two of these four only made-up
-/// records tell, the first two nothing.
+/// The comparison finds every fault of the readable engine that shows at all. Of those in the steps, the first two of
+/// these four nothing tells, the last two made-up records alone; those in the record check are told by made-up records.
 #[test]
 fn faults_are_found() {
     let unseen = [Fault::NextBeforeMessage, Fault::RecordsKept, Fault::OwnSegmentRefused, Fault::LockNeedsNextOnly];
+    let in_records = |fault: Fault| (0..400).all(|case| records_alike(case, fault, &mut [0; CODES]));
     for &fault in FAULTS {
-        let alike = (0..200).all(|case| {
-            let mut rng = Prng::for_case(36, case);
-            match fault.in_reader() {
-                true => {
-                    let table = accepted_table(&mut rng);
-                    (0..40).all(|aim| reads_alike(&damaged_file(&mut rng, &table, aim), fault))
-                }
-                false => {
-                    let (table, steps) = table_with_steps(&mut rng, case);
-                    runs_alike(&table, &steps, fault)
-                }
-            }
-        });
+        let alike = match fault {
+            _ if fault.in_record() => in_records(fault),
+            _ if fault.in_reader() => (0..200).all(|case| {
+                let mut rng = Prng::for_case(36, case);
+                let table = accepted_table(&mut rng);
+                (0..40).all(|aim| reads_alike(&damaged_file(&mut rng, &table, aim), fault))
+            }),
+            _ => (0..200).all(|case| {
+                let (table, steps) = table_with_steps(&mut Prng::for_case(36, case), case);
+                runs_alike(&table, &steps, fault)
+            }),
+        };
         assert_eq!(alike, unseen.contains(&fault), "{fault:?}");
     }
-    let in_records = unseen.map(|fault| (0..400).all(|case| records_alike(case, fault, &mut [0; 28])));
-    assert_eq!(in_records, [true, true, false, false]);
+    assert_eq!(unseen.map(in_records), [true, true, false, false]);
 }

@@ -1,6 +1,7 @@
 //! Generated tables, files, steps and faults hit what they are made for.
 
 use reference::compare::{run_case, Outcome};
+use reference::counts::{file_codes, step_codes, CODES};
 use reference::demand::{check_demand, Clause};
 use reference::fault::{Fault, FAULTS};
 use reference::generate::damage::damaged_file;
@@ -8,6 +9,7 @@ use reference::generate::prng::Prng;
 use reference::generate::steps::Driver;
 use reference::generate::tables::{accepted_table, largest_table};
 use reference::line::start_line;
+use reference::refusal::code_of;
 use reference::step::{step, Step};
 use reference::table_read::{read_table, read_table_with, route_in_file};
 use reference::table_write::{file_bytes, write_table};
@@ -29,28 +31,28 @@ fn tables_come_back() {
         assert_eq!(buffer[..file.len()], file);
         assert_eq!(buffer[file.len()..], [0xAA; 3]);
         for (i, entry) in table.trains.iter().enumerate() {
-            assert_eq!(route_in_file(&file, (i + 1) as u8), Some(&entry.route[..]));
+            assert_eq!(route_in_file(&file, (i + 1) as u8), Ok(&entry.route[..]));
         }
     }
 }
 
 #[test]
 fn files_hit_every_code() {
-    let mut codes = [0; 13];
+    let mut codes = [0; CODES];
     for case in 0..CASES {
         let mut rng = Prng::for_case(12, case);
         let table = accepted_table(&mut rng);
         for aim in 0..20 {
             let file = damaged_file(&mut rng, &table, aim);
-            codes[read_table(&file).err().unwrap_or(0) as usize] += 1;
+            codes[usize::from(code_of(&read_table(&file)))] += 1;
         }
     }
-    assert!(codes.iter().all(|&count| count > 0), "{codes:?}");
+    assert!(file_codes().all(|code| codes[code] > 0), "{codes:?}");
 }
 
 #[test]
 fn steps_hit_every_code_and_the_demand_holds() {
-    let mut codes = [0; 26];
+    let mut codes = [0; CODES];
     for case in 0..CASES {
         let mut rng = Prng::for_case(13, case);
         let table = accepted_table(&mut rng);
@@ -64,7 +66,7 @@ fn steps_hit_every_code_and_the_demand_holds() {
         }
         assert_eq!(check_demand(&table, &list), None);
     }
-    let missing: Vec<usize> = (0..26).filter(|&c| (c == 0 || c > 12) && codes[c] == 0).collect();
+    let missing: Vec<usize> = step_codes().filter(|&code| codes[code] == 0).collect();
     assert!(missing.is_empty(), "{missing:?}");
 }
 
@@ -92,7 +94,7 @@ const UNSEEN: [Fault; 4] = [
 
 #[test]
 fn step_faults_are_seen() {
-    for &fault in FAULTS.iter().filter(|f| !f.in_reader()) {
+    for &fault in FAULTS.iter().filter(|f| f.in_steps()) {
         let all = any_case(fault);
         let seen = !all.broken.is_empty() || all.answers_differ || all.states_differ;
         assert_eq!(seen, !UNSEEN.contains(&fault), "{fault:?}");

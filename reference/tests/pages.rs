@@ -3,9 +3,11 @@
 mod common;
 
 use common::page::{between, blocks, hex_bytes, numbers, on_one_line};
+use reference::counts::of_file;
 use reference::generate::example::{file_text, record_text, Example, BOX_FIELDS};
 use reference::generate::smallest::{refused_size, smallest_accepted, smallest_examples};
 use reference::printout::printout;
+use reference::refusal::Refusal;
 use reference::table_read::read_table;
 
 const CODES: &str = include_str!("../../docs/CODES.md");
@@ -47,7 +49,7 @@ fn example(block: &str) -> Example {
 #[test]
 fn codes_have_their_smallest_examples() {
     let (entries, examples) = (entries(), smallest_examples());
-    assert_eq!(entries.iter().map(|&(code, _)| code).collect::<Vec<u8>>(), (1..=27).collect::<Vec<u8>>());
+    assert_eq!(entries.iter().map(|&(code, _)| code).collect::<Vec<u8>>(), (1..=28).collect::<Vec<u8>>());
     for ((code, text), smallest) in entries.into_iter().zip(&examples) {
         let block = blocks(text)[1];
         let on_page = example(block);
@@ -75,7 +77,7 @@ fn mended(text: &str) -> Option<Example> {
 fn mended_examples_are_accepted() {
     let tried = entries().into_iter().filter_map(|(code, text)| Some((code, mended(text)?)));
     let answers: Vec<(u8, u8)> = tried.map(|(code, example)| (code, example.answer())).collect();
-    assert_eq!(answers, [6, 7, 8, 10, 11, 19, 25].map(|code| (code, 0)));
+    assert_eq!(answers, [6, 7, 8, 10, 11, 19, 25, 28].map(|code| (code, 0)));
 }
 
 /// A file has the code, or it is accepted and every step before the last is answered 0.
@@ -83,7 +85,7 @@ fn mended_examples_are_accepted() {
 fn examples_show_one_code() {
     for (i, smallest) in smallest_examples().into_iter().enumerate() {
         let code = i as u8 + 1;
-        assert_eq!(read_table(&smallest.file).is_ok(), code > 12, "code {code}");
+        assert_eq!(read_table(&smallest.file).is_err(), of_file(code), "code {code}");
         for length in 1..smallest.steps.len() {
             let front = Example { steps: smallest.steps[..length].to_vec(), ..smallest.clone() };
             assert_eq!(front.answer(), 0, "code {code}");
@@ -91,13 +93,13 @@ fn examples_show_one_code() {
     }
 }
 
-/// No change of a byte to any value, and no front part, makes a smaller example of any code 1 to 12.
+/// No change of a byte to any value, and no front part, makes a smaller example of any code of a file.
 #[test]
 fn no_neighbour_is_smaller() {
     let (accepted, examples) = (smallest_accepted(), smallest_examples());
     let smaller = |a: &[u8], b: &[u8]| refused_size(a, &accepted) < refused_size(b, &accepted);
     let check = |file: &[u8]| match read_table(file) {
-        Err(code) => assert!(!smaller(file, &examples[code as usize - 1].file), "{file:?}"),
+        Err(refusal) => assert!(!smaller(file, &examples[refusal.code as usize - 1].file), "{file:?}"),
         Ok(_) => assert!((file.len(), file) >= (accepted.len(), &accepted[..]), "{file:?}"),
     };
     for smallest in &examples {
@@ -174,9 +176,46 @@ fn mistakes_have_their_codes() {
         let (file, lines) = if code <= 2 { (mistyped(block), String::new()) } else { mistaken(block) };
         let mistake = on_file(&file, &words, &lines);
         assert_eq!(mistake.answer(), code, "entry {code}");
-        assert_eq!(lines.is_empty(), code <= 12, "entry {code}");
+        assert_eq!(lines.is_empty(), of_file(code), "entry {code}");
         assert!(lines.is_empty() || mistake.text().ends_with(&format!("\n{lines}")), "entry {code}");
     }
+}
+
+/// The files of the mistake on table S and of the smallest example of an entry.
+fn refused_files(text: &str) -> [Vec<u8>; 2] {
+    let blocks = blocks(text);
+    [mistaken(blocks[0]).0, example(blocks[1]).file]
+}
+
+/// Entries 11 and 28 say, under the mistake on table S and under the smallest example, what `line` prints: the first
+/// text in backquotes there that begins with `file`.
+#[test]
+fn route_codes_have_train_and_place() {
+    for (code, text) in entries().into_iter().filter(|(code, _)| matches!(code, 11 | 28)) {
+        let under = text.split("```\n").skip(2).step_by(2);
+        for (file, words) in refused_files(text).iter().zip(under) {
+            let said = between(words, "`file ", "`").expect("what is printed");
+            let printed = format!("file {said}\n");
+            assert_eq!(printout(file, &[]), printed.into_bytes(), "entry {code}");
+        }
+    }
+}
+
+/// The page has a command that shows the segment at fault of the mistake on table S of entry 11, by its place in the
+/// file.
+#[test]
+fn train_and_place_lead_to_the_byte() {
+    let (_, text) = entries()[10];
+    let [file, _] = refused_files(text);
+    let Refusal { train, place, .. } = read_table(&file).expect_err("the file is refused");
+    let place_in_file: usize = between(CODES, "xxd -s ", " -l 1 net").and_then(|n| n.parse().ok()).expect("a place");
+    let [n, m] = [file[5], file[6]].map(usize::from);
+    let mut record = 8 + 2 * n + 5 * m;
+    for _ in 1..train {
+        record += 2 + usize::from(file[record + 1]);
+    }
+    assert_eq!(place_in_file, record + 2 + usize::from(place) - 1);
+    assert!(!(1..=file[5]).contains(&file[place_in_file]));
 }
 
 /// What is right instead has code 0 on table S, at every step.

@@ -6,9 +6,10 @@ use reference::generate::prng::Prng;
 use reference::generate::tables::accepted_table;
 use reference::line::*;
 use reference::line_check::{record_code, record_fault, RecordFault};
+use reference::refusal::Refusal;
 use reference::step::step_checked;
 use reference::table::*;
-use reference::table_check::table_code;
+use reference::table_check::check_table;
 use reference::table_read::read_table;
 use reference::table_write::{file_bytes, write_table};
 
@@ -16,13 +17,19 @@ fn s() -> Table {
     read_table(&S).unwrap()
 }
 
-/// S changed by hand has this code, in the writer and in a record.
+/// S changed by hand has this code, in the writer and in a record, and tells no train and place.
 fn table_case(code: u8, change: impl Fn(&mut Table)) {
+    route_case([code, 0, 0], change);
+}
+
+/// S changed by hand has this code, in the writer and in a record; the writer tells train and place.
+fn route_case([code, train, place]: [u8; 3], change: impl Fn(&mut Table)) {
+    let refusal = Refusal { code, train, place };
     let mut table = s();
     change(&mut table);
-    assert_eq!(table_code(&table), code);
+    assert_eq!(check_table(&table), Err(refusal));
     let mut buffer = [9; 4000];
-    assert_eq!(write_table(&table, &mut buffer), Err(code));
+    assert_eq!(write_table(&table, &mut buffer), Err(refusal));
     assert_eq!(buffer, [9; 4000]);
     let mut line = start_line(&s());
     line.table = table;
@@ -64,9 +71,11 @@ fn table_codes() {
     table_case(10, |t| t.trains[1].route.clear());
     table_case(10, |t| t.trains[0].route = vec![0; 65]);
     table_case(10, |t| t.trains[0].route = vec![0; 255]);
-    table_case(11, |t| t.trains[0].route[2] = 0);
-    table_case(11, |t| t.trains[0].route[2] = 5);
-    table_case(11, |t| t.trains[0].direction = 1);
+    route_case([11, 1, 3], |t| t.trains[0].route[2] = 0);
+    route_case([11, 1, 3], |t| t.trains[0].route[2] = 5);
+    route_case([11, 2, 1], |t| t.trains[1].route[0] = 255);
+    route_case([28, 1, 2], |t| t.trains[0].direction = 1);
+    route_case([28, 2, 3], |t| t.trains[1].route[2] = 2);
     table_case(12, |t| t.trains[1].route = vec![1]);
 }
 
@@ -76,7 +85,7 @@ fn order_of_codes() {
     table_case(6, |t| (t.segments[3].b, t.boxes[0].kind) = (9, 9));
     table_case(7, |t| (t.boxes[3].kind, t.boxes[0].stem) = (9, 2));
     table_case(10, |t| (t.trains[0].route[0], t.trains[1].direction) = (9, 9));
-    table_case(11, |t| {
+    route_case([28, 2, 2], |t| {
         t.trains[0].route = vec![4];
         t.trains[1].route = vec![4, 1];
     });
@@ -85,14 +94,14 @@ fn order_of_codes() {
 #[test]
 fn writer_needs_room() {
     let mut buffer = [5; 45];
-    assert_eq!(write_table(&s(), &mut buffer), Err(26));
+    assert_eq!(write_table(&s(), &mut buffer), Err(Refusal::by(26)));
     assert_eq!(buffer, [5; 45]);
     let mut full = [5; 46];
     assert_eq!(write_table(&s(), &mut full), Ok(46));
     assert_eq!(full, S);
     let mut bad = s();
     bad.version = 7;
-    assert_eq!(write_table(&bad, &mut []), Err(3));
+    assert_eq!(write_table(&bad, &mut []), Err(Refusal::by(3)));
 }
 
 /// The start line of S changed by hand breaks this clause.
@@ -120,7 +129,9 @@ fn record_clauses() {
     record_case(Some(Route(10)), |l| l.trains[1].route.clear());
     record_case(Some(Route(10)), |l| l.trains[1].route = vec![1; 70]);
     record_case(Some(Route(10)), |l| l.trains[1].direction = 2);
-    record_case(Some(Route(11)), |l| l.trains[0].route = vec![2, 3]);
+    record_case(Some(Route(28)), |l| l.trains[0].route = vec![2, 3]);
+    record_case(Some(Route(28)), |l| l.trains[1].direction = 0);
+    record_case(Some(Route(11)), |l| l.trains[1].route = vec![4, 5]);
     record_case(Some(Route(11)), |l| l.trains[0].route = vec![0]);
     record_case(None, |l| l.trains[0].route = vec![4]);
     record_case(Some(OutsideRoute), |l| l.trains[0].front = 3);
@@ -281,11 +292,11 @@ fn made_up_tables_never_panic() {
             table.trains.extend(entries(&[(byte(&mut rng), &route)]));
         }
         let mut buffer = vec![3; 2000];
-        let code = table_code(&table);
+        let checked = check_table(&table);
         match write_table(&table, &mut buffer) {
             Ok(length) => assert_eq!(read_table(&buffer[..length]), Ok(table)),
             Err(refused) => {
-                assert!(refused == code || (code == 0 && refused == 26));
+                assert_eq!(refused, checked.err().unwrap_or(Refusal::by(26)));
                 assert_eq!(buffer, vec![3; 2000]);
             }
         }

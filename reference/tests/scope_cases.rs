@@ -4,6 +4,7 @@ mod common;
 use common::*;
 use reference::line::start_line;
 use reference::printout::printout;
+use reference::refusal::Refusal;
 use reference::table::{Table, VERSION};
 use reference::table_read::{read_table, route_in_file};
 use reference::table_write::{file_bytes, write_table};
@@ -17,10 +18,11 @@ fn first_three() -> Vec<([u8; 3], u8)> {
 fn s_is_taken() {
     let table = read_table(&S).unwrap();
     assert_eq!((table.segments.len(), table.boxes.len(), table.trains.len()), (4, 4, 2));
-    assert_eq!(route_in_file(&S, 1), Some(&S[38..41]));
-    assert_eq!(route_in_file(&S, 2), Some(&S[43..46]));
-    assert_eq!(route_in_file(&S, 0), None);
-    assert_eq!(route_in_file(&S, 3), None);
+    assert_eq!(route_in_file(&S, 1), Ok(&S[38..41]));
+    assert_eq!(route_in_file(&S, 2), Ok(&S[43..46]));
+    assert_eq!(route_in_file(&S, 0), Err(Refusal::by(14)));
+    assert_eq!(route_in_file(&S, 3), Err(Refusal::by(14)));
+    assert_eq!(route_in_file(&S[..45], 1), Err(Refusal::by(5)));
     let mut buffer = [7; 50];
     assert_eq!(write_table(&table, &mut buffer), Ok(46));
     assert_eq!(buffer[..46], S);
@@ -29,13 +31,13 @@ fn s_is_taken() {
 
 #[test]
 fn s_with_other_length() {
-    assert_eq!(read_table(&S[..45]), Err(5));
+    assert_eq!(read_table(&S[..45]), Err(Refusal::by(5)));
     let mut longer = S.to_vec();
     longer.push(0);
-    assert_eq!(read_table(&longer), Err(5));
-    assert_eq!(read_table(&S[..7]), Err(1));
+    assert_eq!(read_table(&longer), Err(Refusal::by(5)));
+    assert_eq!(read_table(&S[..7]), Err(Refusal::by(1)));
     for length in 8..46 {
-        assert_eq!(read_table(&S[..length]), Err(5));
+        assert_eq!(read_table(&S[..length]), Err(Refusal::by(5)));
     }
 }
 
@@ -47,7 +49,7 @@ fn most_segments() {
     let mut file = file_bytes(&table);
     assert_eq!(read_table(&file), Ok(table));
     file[5] = 97;
-    assert_eq!(read_table(&file), Err(4));
+    assert_eq!(read_table(&file), Err(Refusal::by(4)));
 }
 
 #[test]
@@ -72,15 +74,17 @@ fn two_links_make_a_loop() {
         boxes: boxes(&[[1, 1, 2, 0, 0], [1, 1, 2, 0, 0]]),
         trains: vec![],
     };
-    assert_eq!(read_table(&file_bytes(&table)), Err(9));
+    assert_eq!(read_table(&file_bytes(&table)), Err(Refusal::by(9)));
 }
 
 #[test]
 fn routes_refused() {
     let jump = s_with(&[(0, &[2, 3]), (1, &[4, 3, 1])]);
-    assert_eq!(read_table(&file_bytes(&jump)), Err(11));
+    let refusal = Refusal { code: 28, train: 1, place: 2 };
+    assert_eq!(read_table(&file_bytes(&jump)), Err(refusal));
+    assert_eq!(print(&file_bytes(&jump), &S_STEPS), "file 28 1 2\n");
     let clash = s_with(&[(0, &[1, 2, 4]), (1, &[1])]);
-    assert_eq!(read_table(&file_bytes(&clash)), Err(12));
+    assert_eq!(read_table(&file_bytes(&clash)), Err(Refusal::by(12)));
 }
 
 #[test]

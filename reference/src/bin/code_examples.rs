@@ -1,9 +1,15 @@
-//! Prints the smallest example of each code 1 to 27, as docs/CODES.md has them.
+//! Prints the smallest example of each code 1 to 28, as docs/CODES.md has them, with what the program `line` prints
+//! for the files of 11 and 28.
 
 use reference::generate::smallest::smallest_examples;
+use reference::printout::printout;
 
 fn main() {
-    for (i, example) in smallest_examples().iter().enumerate() {
-        println!("## {}\n\n```\n{}```\n", i + 1, example.text());
+    for (code, example) in (1..).zip(smallest_examples()) {
+        println!("## {code}\n\n```\n{}```\n", example.text());
+        if matches!(code, 11 | 28) {
+            let printed = printout(&example.file, &[]);
+            println!("`{}`\n", String::from_utf8_lossy(&printed).trim_end());
+        }
     }
 }

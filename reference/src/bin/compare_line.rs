@@ -6,12 +6,13 @@
 //! Arguments: the program, seed, number of tables.
 
 use reference::argument::argument;
-use reference::counts::print_codes;
+use reference::counts::{print_codes, Counts, CODES};
 use reference::generate::damage::damaged_file;
 use reference::generate::outside::{driven, table_with_steps};
 use reference::generate::prng::Prng;
 use reference::generate::tables::largest_table;
 use reference::printout::{printout, MAX_STEPS};
+use reference::refusal::code_of;
 use reference::table_read::read_table;
 use reference::table_write::file_bytes;
 use std::fs::{create_dir, create_dir_all, remove_dir_all, remove_file, write, File};
@@ -39,8 +40,8 @@ struct Comparison {
     runs: usize,
     accepted: usize,
     lists_cut: usize,
-    file_codes: [usize; 13],
-    step_codes: [usize; 28],
+    file_codes: Counts,
+    step_codes: Counts,
     differences: usize,
 }
 
@@ -59,8 +60,8 @@ fn main() -> Result<()> {
         runs: 0,
         accepted: 0,
         lists_cut: 0,
-        file_codes: [0; 13],
-        step_codes: [0; 28],
+        file_codes: [0; CODES],
+        step_codes: [0; CODES],
         differences: 0,
     };
     comparison.files_that_are_none()?;
@@ -168,11 +169,11 @@ impl Comparison {
     fn count(&mut self, file: &[u8], steps: &[u8], expected: &[u8]) {
         self.runs += 1;
         self.lists_cut += usize::from(expected.ends_with(b"\nmore\n"));
-        if let Err(code) = read_table(file) {
-            self.file_codes[code as usize] += 1;
+        let code = code_of(&read_table(file));
+        self.file_codes[usize::from(code)] += 1;
+        if code != 0 {
             return;
         }
-        self.file_codes[0] += 1;
         self.accepted += 1;
         let text = String::from_utf8_lossy(expected);
         for line in text.lines().take(steps.len().div_ceil(3).min(MAX_STEPS)) {

@@ -15,6 +15,7 @@ use reference::generate::tables::{accepted_table, largest_table};
 use reference::line::*;
 use reference::numbers::{ends_of_next, line_numbers, recorded};
 use reference::printout::printout;
+use reference::refusal::numbers_of;
 use reference::step::{step_checked, Step};
 use reference::table::Table;
 use reference::table_read::read_table;
@@ -114,7 +115,7 @@ fn run_case(rng: &mut Prng, case: u64, table: &Table, steps: usize) {
         stopped |= u8::from(whole.take(bytes) != 0);
     }
     let (bytes, list_of_steps) = (list(&file), steps_text(&taken));
-    theorem(&format!("code-{case}"), &format!("codeOf {bytes}"), &[0]);
+    theorem(&format!("code-{case}"), &format!("codeOf {bytes}"), &[0; 3]);
     theorem(&format!("bytes-{case}"), &format!("rewritten {bytes}"), &file);
     theorem(
         &format!("text-{case}"),
@@ -137,8 +138,8 @@ fn run_case(rng: &mut Prng, case: u64, table: &Table, steps: usize) {
     );
 }
 
-/// The writer's code and buffer, for the table and for one with a number altered; a route as a
-/// part of the file: its code, where it begins, its bytes.
+/// The writer's refusal and buffer, for the table and for one with a number altered; a route as a
+/// part of the file: its refusal, where it begins, its bytes.
 fn file_case(rng: &mut Prng, case: u64, table: &Table) {
     let mut altered = table.clone();
     alter_table(rng, &mut altered);
@@ -146,19 +147,19 @@ fn file_case(rng: &mut Prng, case: u64, table: &Table) {
         let file = file_bytes(table);
         let length = (file.len() + rng.below(5)).saturating_sub(2);
         let mut buffer = vec![7; length];
-        let mut numbers = vec![write_table(table, &mut buffer).err().unwrap_or(0)];
+        let mut numbers = numbers_of(&write_table(table, &mut buffer)).to_vec();
         numbers.extend(&buffer);
         let question = format!("writtenTo (decode {}) {}", list(&file), list(&vec![7; length]));
         theorem(&format!("{name}-{case}"), &question, &numbers);
     }
     let train = rng.below(table.trains.len() + 2);
     let numbers = match train.checked_sub(1).and_then(|i| table.trains.get(i)) {
-        None => vec![14, 0],
+        None => vec![14, 0, 0, 0],
         Some(entry) => {
             let mut before = table.clone();
             before.trains.truncate(train);
             before.trains[train - 1].route.clear();
-            let mut numbers = vec![0, file_bytes(&before).len()];
+            let mut numbers = vec![0, 0, 0, file_bytes(&before).len()];
             numbers.extend(entry.route.iter().map(|&segment| segment as usize));
             numbers
         }
@@ -192,8 +193,8 @@ fn damaged_case(rng: &mut Prng, case: u64, table: &Table) {
     for damage in 0..4 {
         let aim = rng.below(20) as u8;
         let file = damaged_file(rng, table, aim);
-        let code = read_table(&file).err().unwrap_or(0);
-        theorem(&format!("damaged-{case}-{damage}"), &format!("codeOf {}", list(&file)), &[code]);
+        let numbers = numbers_of(&read_table(&file));
+        theorem(&format!("damaged-{case}-{damage}"), &format!("codeOf {}", list(&file)), &numbers);
     }
 }
 

@@ -3,11 +3,13 @@
 //! table.
 
 use reference::argument::argument;
+use reference::counts::{print_codes, CODES};
 use reference::generate::damage::damaged_file;
 use reference::generate::prng::Prng;
 use reference::generate::steps::Driver;
 use reference::generate::tables::{accepted_table, largest_table};
 use reference::line::start_line;
+use reference::refusal::code_of;
 use reference::step::step;
 use reference::table_read::read_table;
 use reference::table_write::file_bytes;
@@ -15,8 +17,8 @@ use reference::table_write::file_bytes;
 fn main() {
     let (seed, tables) = (argument(1, 1), argument(2, 500));
     let (damages, steps) = (argument(3, 40), argument(4, 2000));
-    let mut file_codes = [0u64; 13];
-    let mut step_codes = [0u64; 26];
+    let mut file_codes = [0; CODES];
+    let mut step_codes = [0; CODES];
     let (mut refused, mut farthest, mut most) = (0, 0, [0; 4]);
     for case in 0..tables {
         let mut rng = Prng::for_case(seed, case);
@@ -25,17 +27,12 @@ fn main() {
             _ => accepted_table(&mut rng),
         };
         let file = file_bytes(&table);
-        match read_table(&file) {
-            Ok(_) => file_codes[0] += 1,
-            Err(code) => {
-                refused += 1;
-                file_codes[code as usize] += 1;
-            }
-        }
+        let code = code_of(&read_table(&file));
+        refused += usize::from(code != 0);
+        file_codes[usize::from(code)] += 1;
         for i in 0..damages {
             let damaged = damaged_file(&mut rng, &table, (i % 20) as u8);
-            let code = read_table(&damaged).err().unwrap_or(0);
-            file_codes[code as usize] += 1;
+            file_codes[usize::from(code_of(&read_table(&damaged)))] += 1;
         }
         let longest = table.trains.iter().map(|t| t.route.len()).max().unwrap_or(0);
         let sizes = [table.segments.len(), table.boxes.len(), table.trains.len(), longest];
@@ -54,14 +51,5 @@ fn main() {
     println!("undamaged tables refused: {refused}");
     println!("most segments, boxes, trains, route length: {most:?}");
     println!("most segments entered by one train: {farthest}");
-    println!("code  files");
-    for (code, count) in file_codes.iter().enumerate() {
-        println!("{code:4} {count:6}");
-    }
-    println!("code  steps");
-    for (code, count) in step_codes.iter().enumerate() {
-        if code == 0 || code > 12 {
-            println!("{code:4} {count:6}");
-        }
-    }
+    print_codes(&file_codes, &step_codes);
 }

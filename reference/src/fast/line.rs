@@ -4,6 +4,7 @@ use super::records::Records;
 use super::table::{Route, Table};
 use crate::line::{self, Request, Wish};
 use crate::numbers::{BOX_NUMBERS, TRAIN_NUMBERS};
+use crate::refusal::Refusal;
 use crate::table::*;
 
 /// A box, but for who holds its segments.
@@ -127,17 +128,12 @@ impl Line {
         routes: [Route::NONE; MAX_TRAINS],
     };
 
-    /// Makes this the start line of a file. Refused: the code 1 to 12, and the line as it was.
-    pub fn read(&mut self, file: &[u8]) -> u8 {
-        let records = match Records::in_file(file) {
-            Ok(records) => records,
-            Err(code) => return code,
-        };
-        let code = records.code();
-        if code == 0 {
-            self.start(&records);
-        }
-        code
+    /// Makes this the start line of a file. Refused by 1 to 12 or 28, with the line as it was.
+    pub fn read(&mut self, file: &[u8]) -> Result<(), Refusal> {
+        let records = Records::in_file(file)?;
+        records.check()?;
+        self.start(&records);
+        Ok(())
     }
 
     /// The start line of records that were accepted.
@@ -155,9 +151,9 @@ impl Line {
         }
     }
 
-    /// Writes the file of the table to the front of the buffer and gives its length. Refused: 3, 4, 6 to 12 or 26,
-    /// and the buffer as it was.
-    pub fn write(&self, buffer: &mut [u8]) -> Result<usize, u8> {
+    /// Writes the file of the table to the front of the buffer and gives its length. Refused by 3, 4, 6 to 12, 28
+    /// or 26, with the buffer as it was.
+    pub fn write(&self, buffer: &mut [u8]) -> Result<usize, Refusal> {
         self.table.write(buffer)
     }
 

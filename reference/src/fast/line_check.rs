@@ -25,7 +25,7 @@ impl Line {
         }) || self.holders[..3 * m].iter().fold(false, |fails, holder| fails | above(holder))
     }
 
-    /// A route that fails 10 or 11, a train outside it or covering what it may not, or its message.
+    /// A route that fails 10, 11 or 28, a train outside it or covering what it may not, or its message.
     fn trains_fail(&self, records: &Records) -> bool {
         let routes = self.routes.iter().zip(records.routes());
         routes.zip(&self.trains).any(|((route, &read), train)| {

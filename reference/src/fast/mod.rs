@@ -8,16 +8,15 @@ mod records;
 mod step;
 mod table;
 
+use crate::refusal::Refusal;
 pub use line::Line;
 pub(crate) use line::{BoxState, Train};
 pub(crate) use table::Route;
 
 /// Reads the file and takes the steps from its start line on; the code of each goes to `answers`.
-/// The file's code, or 26 where `answers` is shorter than the list; it is as it was then.
-pub fn run(file: &[u8], steps: &[u8], answers: &mut [u8]) -> u8 {
+/// Refused as the file is, or by 26 where `answers` is shorter than the list; it is as it was then.
+pub fn run(file: &[u8], steps: &[u8], answers: &mut [u8]) -> Result<(), Refusal> {
     let mut line = Line::NONE;
-    match line.read(file) {
-        0 => line.run(steps, answers),
-        code => code,
-    }
+    line.read(file)?;
+    line.run(steps, answers)
 }

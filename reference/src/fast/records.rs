@@ -1,6 +1,7 @@
-//! The records of a table where they stand, in a file or in a line, and the codes that they get:
-//! 1 to 5 for a file, 6 to 12 for both.
+//! The records of a table where they stand, in a file or in a line, and how they are refused:
+//! by 1 to 5 for a file, by 6 to 12 and 28 for both.
 
+use crate::refusal::Refusal;
 use crate::table::*;
 use crate::table_read::MARK;
 
@@ -43,17 +44,17 @@ impl<'a> Records<'a> {
         records
     }
 
-    /// The records of a file, or one of the codes 1 to 5.
-    pub fn in_file(file: &'a [u8]) -> Result<Self, u8> {
+    /// The records of a file; refused by 1 to 5.
+    pub fn in_file(file: &'a [u8]) -> Result<Self, Refusal> {
         let Some((&[x, y, z, high, low, n, m, k], body)) = file.split_first_chunk() else {
-            return Err(1);
+            return Err(Refusal::by(1));
         };
         if [x, y, z] != MARK {
-            return Err(2);
+            return Err(Refusal::by(2));
         }
         match head_code(u16::from_be_bytes([high, low]), [n, m, k]) {
-            0 => Self::in_body(body, [n, m, k].map(usize::from)).ok_or(5),
-            code => Err(code),
+            0 => Self::in_body(body, [n, m, k].map(usize::from)).ok_or(Refusal::by(5)),
+            code => Err(Refusal::by(code)),
         }
     }
 
@@ -76,23 +77,33 @@ impl<'a> Records<'a> {
         &self.routes[..self.trains]
     }
 
-    /// The first of the codes 6 to 12, or 0.
-    pub fn code(&self) -> u8 {
-        match () {
+    /// Whether 6 to 12 and 28 let the records through.
+    pub fn check(&self) -> Result<(), Refusal> {
+        let code = match () {
             _ if self.ends_fail() => 6,
             _ if self.places_fail() => 7,
             _ if self.listing_fails() => 8,
             _ if self.has_loop() => 9,
             _ if self.routes().iter().any(|&(direction, route)| shape_fails(direction, route)) => 10,
-            _ if self.routes().iter().any(|&(direction, route)| self.follow_fails(direction, route)) => 11,
-            _ if self.firsts_clash() => 12,
             _ => 0,
+        };
+        if code != 0 {
+            return Err(Refusal::by(code));
         }
+        for (train, &(direction, route)) in (1..).zip(self.routes()) {
+            if let Some((code, place)) = self.route_fault(direction, route) {
+                return Err(Refusal { code, train, place });
+            }
+        }
+        if self.firsts_clash() {
+            return Err(Refusal::by(12));
+        }
+        Ok(())
     }
 
-    /// Whether 10 or 11 stops a route.
+    /// Whether 10, 11 or 28 stops a route.
     pub fn route_fails(&self, direction: u8, route: &[u8]) -> bool {
-        shape_fails(direction, route) || self.follow_fails(direction, route)
+        shape_fails(direction, route) || self.route_fault(direction, route).is_some()
     }
 
     /// 6: an end at no box, or both ends at one.
@@ -166,17 +177,20 @@ impl<'a> Records<'a> {
         count < self.boxes.len()
     }
 
-    /// 11: a segment that the table lacks, or one that does not follow the one before.
-    fn follow_fails(&self, direction: u8, route: &[u8]) -> bool {
+    /// The first place of a route, from 1, with a segment that the table lacks (11) or that does not follow the one
+    /// before (28).
+    fn route_fault(&self, direction: u8, route: &[u8]) -> Option<(u8, u8)> {
         let far = usize::from(direction == 0);
-        let ends = |segment: u8| self.segments.get(usize::from(segment).wrapping_sub(1));
-        let Some(mut before) = ends(route[0]) else {
-            return true;
-        };
-        route[1..].iter().any(|&segment| match ends(segment) {
-            Some(after) => std::mem::replace(&mut before, after)[far] != after[1 - far],
-            None => true,
-        })
+        // The box that the segment has to begin at; 0, where no segment does, stands for any.
+        let mut from = 0;
+        for (i, &segment) in route.iter().enumerate() {
+            let ends = self.segments.get(usize::from(segment).wrapping_sub(1));
+            match ends {
+                Some(ends) if from == 0 || ends[1 - far] == from => from = ends[far],
+                _ => return Some((if ends.is_none() { 11 } else { 28 }, i as u8 + 1)),
+            }
+        }
+        None
     }
 
     /// 12: two trains with one first segment. Segments have numbers up to 96 (11).

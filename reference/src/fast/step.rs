@@ -2,6 +2,7 @@
 
 use super::line::{Line, Message, State, Train};
 use crate::line::{Request, Wish};
+use crate::refusal::Refusal;
 use crate::step::Step;
 use crate::table::MAX_TRAINS;
 
@@ -14,20 +15,18 @@ impl Line {
         self.step(bytes)
     }
 
-    /// Takes all steps of a list; a last one of one or two bytes is answered 13. 26 where `answers` is shorter than
-    /// the list, with nothing done.
-    pub fn run(&mut self, steps: &[u8], answers: &mut [u8]) -> u8 {
+    /// Takes all steps of a list; a last one of one or two bytes is answered 13. Refused by 26 where `answers` is
+    /// shorter than the list, with nothing done.
+    pub fn run(&mut self, steps: &[u8], answers: &mut [u8]) -> Result<(), Refusal> {
         let (whole, rest) = steps.as_chunks();
-        let Some(answers) = answers.get_mut(..steps.len().div_ceil(3)) else {
-            return 26;
-        };
+        let answers = answers.get_mut(..steps.len().div_ceil(3)).ok_or(Refusal::by(26))?;
         if !rest.is_empty() {
             answers[whole.len()] = 13;
         }
         for (&bytes, answer) in whole.iter().zip(answers) {
             *answer = self.step(bytes);
         }
-        0
+        Ok(())
     }
 
     /// Takes a step on a record that holds, and gives its code. Inlined into the loop of `run`.

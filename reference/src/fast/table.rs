@@ -2,6 +2,7 @@
 //! no part.
 
 use super::records::{head_code, Records};
+use crate::refusal::Refusal;
 use crate::table::*;
 use crate::table_read::MARK;
 
@@ -63,23 +64,21 @@ impl Table {
     }
 
     /// The records, if their head has neither code 3 nor 4.
-    fn records(&self) -> Result<Records<'_>, u8> {
+    fn records(&self) -> Result<Records<'_>, Refusal> {
         match head_code(self.version, self.counts) {
             0 => {}
-            code => return Err(code),
+            code => return Err(Refusal::by(code)),
         }
         let [n, m, k] = self.counts();
         let routes = self.routes[..k].iter().map(|route| (route.direction, route.segments()));
         Ok(Records::new(&self.segments[..n], &self.boxes[..m], routes))
     }
 
-    /// The records, or the code that refuses them: 3, 4 or 6 to 12.
-    pub fn checked(&self) -> Result<Records<'_>, u8> {
+    /// The records; refused by 3, 4, 6 to 12 or 28.
+    pub fn checked(&self) -> Result<Records<'_>, Refusal> {
         let records = self.records()?;
-        match records.code() {
-            0 => Ok(records),
-            code => Err(code),
-        }
+        records.check()?;
+        Ok(records)
     }
 
     /// Takes over records that were accepted.
@@ -94,13 +93,14 @@ impl Table {
         }
     }
 
-    /// Writes the file to the front of the buffer and gives its length. Refused: 3, 4, 6 to 12 or 26.
-    pub fn write(&self, buffer: &mut [u8]) -> Result<usize, u8> {
+    /// Writes the file to the front of the buffer and gives its length. Refused by 3, 4, 6 to 12, 28
+    /// or 26.
+    pub fn write(&self, buffer: &mut [u8]) -> Result<usize, Refusal> {
         let records = self.checked()?;
         let (segments, boxes) = (records.segments.as_flattened(), records.boxes.as_flattened());
         let routes = records.routes().iter().map(|(_, route)| 2 + route.len()).sum::<usize>();
         let length = 8 + segments.len() + boxes.len() + routes;
-        let mut rest = buffer.get_mut(..length).ok_or(26)?;
+        let mut rest = buffer.get_mut(..length).ok_or(Refusal::by(26))?;
         let mut put = |bytes: &[u8]| rest.split_off_mut(..bytes.len()).expect("there is room").copy_from_slice(bytes);
         put(&MARK);
         put(&self.version.to_be_bytes());

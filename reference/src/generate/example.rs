@@ -2,6 +2,7 @@
 
 use crate::line::{start_line, Line};
 use crate::record::{Change, Record};
+use crate::refusal::code_of;
 use crate::step::{step, step_checked, Step};
 use crate::table::*;
 use crate::table_read::read_table;
@@ -27,11 +28,11 @@ impl Example {
     /// The code of what is done last.
     pub fn answer(&self) -> u8 {
         let table = match read_table(&self.file) {
-            Err(code) => return code,
+            Err(refusal) => return refusal.code,
             Ok(table) => table,
         };
         match self.buffer {
-            Some(length) => write_table(&table, &mut vec![0; length]).err().unwrap_or(0),
+            Some(length) => code_of(&write_table(&table, &mut vec![0; length])),
             None => self.answers(&table).last().copied().unwrap_or(0),
         }
     }

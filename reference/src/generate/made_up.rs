@@ -20,7 +20,7 @@ pub enum Aim {
     Length,
     /// A segment of a train's route as it stands that the table lacks.
     Route,
-    /// A train's route as it stands jumps, in this direction.
+    /// A train's route as it stands jumps, in this direction, and has all its segments in the table.
     Jump(u8),
     PlaceZero,
     PlaceBeyond,
@@ -43,7 +43,7 @@ pub enum Aim {
     Nothing,
 }
 
-pub const AIMS: [Aim; 28] = [
+pub const AIMS: [Aim; 29] = [
     Aim::Table(3),
     Aim::Table(4),
     Aim::Table(6),
@@ -53,6 +53,7 @@ pub const AIMS: [Aim; 28] = [
     Aim::Table(10),
     Aim::Table(11),
     Aim::Table(12),
+    Aim::Table(28),
     Aim::Direction,
     Aim::Length,
     Aim::Route,
@@ -80,7 +81,8 @@ impl Aim {
         Some(match self {
             Aim::Table(code) => RecordFault::TablePart(code),
             Aim::Direction | Aim::Length => RecordFault::Route(10),
-            Aim::Route | Aim::Jump(_) => RecordFault::Route(11),
+            Aim::Route => RecordFault::Route(11),
+            Aim::Jump(_) => RecordFault::Route(28),
             Aim::PlaceZero | Aim::PlaceBeyond | Aim::TailOutside => RecordFault::OutsideRoute,
             Aim::CoversNone | Aim::CoversThree => RecordFault::Covering,
             Aim::Position => RecordFault::Position,
@@ -221,9 +223,10 @@ fn table_changes(rng: &mut Prng, table: &Table, code: u8) -> Option<Vec<Change>>
             0 => vec![[b'd', i, 0, rng.pick(&[2, 255])]],
             _ => vec![[b'd', i, 1, rng.pick(&[0, 65, 255])]],
         },
-        11 => {
+        11 | 28 => {
             let place = rng.below(table.trains[i as usize].route.len()) as u8;
-            vec![[b'r', i, place, rng.pick(&[0, n as u8 + 1, 255, any_segment, any_segment])]]
+            let segment = if code == 11 { rng.pick(&[0, n as u8 + 1, 255]) } else { any_segment };
+            vec![[b'r', i, place, segment]]
         }
         _ => {
             let other = rng.below(k);

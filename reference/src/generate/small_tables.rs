@@ -14,7 +14,7 @@ pub const HEAD: usize = 8;
 /// The files that are looked at.
 pub struct Files<'a> {
     pub length: usize,
-    /// Records pass all codes of theirs below this one; all codes where it is 0.
+    /// Records pass all codes of theirs before this one, 11 and 28 being one; all codes where it is 0.
     pub code: u8,
     /// The fewest trains.
     pub trains: usize,
@@ -60,9 +60,10 @@ impl<'a> Files<'a> {
         room.checked_sub(2 * n + 5 * m + 2 * k).is_some_and(|bytes| (least..=most).contains(&bytes))
     }
 
-    /// Whether records are to pass this code.
+    /// Whether records are to pass this code. 28 is looked for together with 11.
     fn past(&self, code: u8) -> bool {
-        self.code == 0 || self.code > code
+        let aim = if self.code == 28 { 11 } else { self.code };
+        aim == 0 || aim > code
     }
 
     /// Whether the first bytes of the table's file are near enough to those of `like`.

@@ -1,7 +1,7 @@
-//! The smallest example of each code 1 to 27, found by search.
+//! The smallest example of each code 1 to 28, found by search.
 //!
 //! - Accepted files: fewer bytes are smaller, then lower bytes, the first that differs deciding.
-//! - Refused files (1 to 12): fewer bytes are smaller; then fewer places that differ from the smallest
+//! - Refused files (1 to 12 and 28): fewer bytes are smaller; then fewer places that differ from the smallest
 //!   accepted file, as far as both go, so that little but the fault is wrong; then lower bytes.
 //! - Steps (13 to 25): the smallest accepted file on which some list of steps has the code, and the
 //!   shortest such list; among lists of one length the one with the lowest bytes.
@@ -11,13 +11,14 @@
 //!
 //! The search leaves out nothing that could be smaller. Under 8 bytes a file has code 1. With 8 bytes,
 //! every file is looked at that differs from the smallest accepted one in one place at most, and some of
-//! these have 2 to 5. For 6 to 12 and for accepted files, every table is looked at in order (see
+//! these have 2 to 5. For 6 to 12, for 28 and for accepted files, every table is looked at in order (see
 //! `small_tables.rs`); a table on which no list of steps has the code is given up only after all its
 //! lines, or where the code asks for trains that it lacks (`trains_for`, `may_show`).
 
 use super::example::Example;
 use super::small_tables::{Files, HEAD};
 use crate::line::start_line;
+use crate::refusal::code_of;
 use crate::step::{step, Step};
 use crate::table::*;
 use crate::table_read::read_table;
@@ -27,16 +28,19 @@ use std::collections::{HashSet, VecDeque};
 /// No example needs a longer file.
 const LONGEST: usize = 60;
 
-/// The examples of the codes 1 to 27.
+/// The examples of the codes 1 to 28.
 pub fn smallest_examples() -> Vec<Example> {
     let accepted = smallest_accepted();
-    let refused = (1..=12).map(|code| match code {
-        1..=5 => refused_head(code, &accepted),
-        _ => refused_body(code, &accepted),
-    });
-    let files = refused.map(|file| Example { file: file.expect("the code is found"), ..Example::default() });
+    let refused = |code: u8| {
+        let file = match code {
+            1..=5 => refused_head(code, &accepted),
+            _ => refused_body(code, &accepted),
+        };
+        Example { file: file.expect("the code is found"), ..Example::default() }
+    };
     let short = Example { buffer: Some(accepted.len() - 1), file: accepted.clone(), ..Example::default() };
-    files.chain(step_examples()).chain([short, changed_record(&accepted)]).collect()
+    let others = step_examples().into_iter().chain([short, changed_record(&accepted)]);
+    (1..=12).map(refused).chain(others).chain([refused(28)]).collect()
 }
 
 /// The smallest accepted file.
@@ -54,7 +58,7 @@ pub fn refused_size<'a>(file: &'a [u8], accepted: &[u8]) -> (usize, usize, &'a [
 
 /// The smallest file of 8 bytes at most with a code from 1 to 5.
 fn refused_head(code: u8, like: &[u8]) -> Option<Vec<u8>> {
-    let refused = |file: &Vec<u8>| read_table(file) == Err(code);
+    let refused = |file: &Vec<u8>| code_of(&read_table(file)) == code;
     (0..=HEAD).find_map(|length| {
         let front = like[..length].to_vec();
         let changed = (0..length).flat_map(|place| (0..=255).map(move |value| (place, value)));
@@ -67,9 +71,9 @@ fn refused_head(code: u8, like: &[u8]) -> Option<Vec<u8>> {
     })
 }
 
-/// The smallest file with a code from 6 to 12.
+/// The smallest file with a code from 6 to 12, or with 28.
 fn refused_body(code: u8, like: &[u8]) -> Option<Vec<u8>> {
-    let refused = |table: &Table| Some(file_bytes(table)).filter(|file| read_table(file) == Err(code));
+    let refused = |table: &Table| Some(file_bytes(table)).filter(|file| code_of(&read_table(file)) == code);
     let sizes = (0..LONGEST).flat_map(|length| (0..=length).map(move |differences| (length, differences)));
     let files = |(length, differences)| Files { length, code, trains: 0, differences, like };
     sizes.map(files).find_map(|files| files.first(&mut { refused }))

@@ -1,11 +1,13 @@
 //! A corpus under way: its records, the text for them, and what has been counted.
 
+use reference::counts::Counts;
 use reference::generate::made_up::{Aim, AIMS};
 use reference::line::{start_line, Line};
 use reference::line_check::record_code;
 use reference::numbers::line_numbers;
 use reference::numbers::TRAIN_NUMBERS;
 use reference::record::{Change, Record};
+use reference::refusal::{code_of, Refusal};
 use reference::step::{step, step_checked, Step};
 use reference::table::Table;
 use reference::table_read::{read_table, route_in_file};
@@ -14,15 +16,10 @@ use std::fmt::Write;
 
 pub const S: &[u8] = include_bytes!("../../../../samples/s/net");
 pub const SEED: u64 = 1;
-/// How many files of the damaged part have each code 1 to 12 at least.
+/// How many files of the damaged part have each code 1 to 12 and 28 at least.
 pub const FEWEST: usize = 10;
 /// What a lent buffer holds before a run.
 const UNUSED: u8 = 0x77;
-
-/// How many files have each code 0 to 12.
-pub type Counts = [usize; 13];
-/// How many steps have each code 0 to 27.
-pub type StepCounts = [usize; 28];
 
 /// A list of steps with the file that it runs on.
 pub struct Run {
@@ -48,8 +45,8 @@ pub struct Corpus {
     pub made_up: Vec<MadeUp>,
     pub counts: Counts,
     /// Codes of the steps of lists, and of those on made-up records.
-    pub list_codes: StepCounts,
-    pub made_up_codes: StepCounts,
+    pub list_codes: Counts,
+    pub made_up_codes: Counts,
     /// How many made-up records have each aim.
     pub aims: [usize; AIMS.len()],
     steps: Vec<u8>,
@@ -125,8 +122,7 @@ impl Corpus {
     }
 
     fn decide(&mut self, bytes: Vec<u8>) {
-        let code = read_table(&bytes).err().unwrap_or(0);
-        self.counts[code as usize] += 1;
+        self.counts[usize::from(code_of(&read_table(&bytes)))] += 1;
         self.text.push_str(&file_text(&bytes));
         self.files.push(bytes);
     }
@@ -135,24 +131,28 @@ impl Corpus {
 /// The line of the text for a file.
 fn file_text(bytes: &[u8]) -> String {
     let table = match read_table(bytes) {
-        Err(code) => return format!("{code}\n"),
+        Err(refusal) => return format!("{}\n", refusal.text(',')),
         Ok(table) => table,
     };
     let mut line = String::from("0");
     let mut buffer = vec![0; bytes.len()];
-    let code = write_table(&table, &mut buffer).err().unwrap_or(0);
-    write!(line, " {code}:{}", hex(&buffer)).unwrap();
-    let code = write_table(&table, &mut buffer[1..]).err().unwrap_or(0);
-    write!(line, " {code}").unwrap();
+    let written = write_table(&table, &mut buffer);
+    write!(line, " {}:{}", answer(&written), hex(&buffer)).unwrap();
+    let short = write_table(&table, &mut buffer[1..]);
+    write!(line, " {}", answer(&short)).unwrap();
     let last = table.trains.len() + 1;
     for train in 0..=last {
         if bytes.len() < 60 || train == 1 || train == last {
             let route = route_in_file(bytes, train as u8);
-            let code = if route.is_some() { 0 } else { 14 };
-            write!(line, " {code}:{}", hex(route.unwrap_or(&[]))).unwrap();
+            write!(line, " {}:{}", answer(&route), hex(route.unwrap_or(&[]))).unwrap();
         }
     }
     line + "\n"
+}
+
+/// What the text has for a call that may be refused.
+fn answer<T>(result: &Result<T, Refusal>) -> String {
+    result.as_ref().err().map_or("0".into(), |refusal| refusal.text(','))
 }
 
 /// The line after the steps in these bytes, and the answers, a last step of one or two bytes among them.
@@ -169,21 +169,19 @@ fn run_steps(table: &Table, steps: &[u8]) -> (Line, Vec<u8>) {
 /// The line of the text for a list of steps; its answers.
 fn run_text(text: &mut String, run: &Run) -> Vec<u8> {
     let count = run.steps.len().div_ceil(3);
-    let (code, line, answers) = match read_table(&run.file) {
-        Err(code) => (code, Line::default(), vec![]),
-        Ok(table) => {
-            let (line, answers) = run_steps(&table, &run.steps);
-            (0, line, answers)
-        }
+    let table = read_table(&run.file);
+    let (line, answers) = match &table {
+        Err(_) => (Line::default(), vec![]),
+        Ok(table) => run_steps(table, &run.steps),
     };
     let mut buffer = answers.clone();
     buffer.resize(count + 1, UNUSED);
-    write!(text, "{code}:{} ", hex(&buffer)).unwrap();
+    write!(text, "{}:{} ", answer(&table), hex(&buffer)).unwrap();
     add_line(text, &line);
     if count > 0 {
         // The buffer is too short, which is looked at after the file.
-        let code = if code == 0 { 26 } else { code };
-        write!(text, " {code}:{} :", hex(&vec![UNUSED; count - 1])).unwrap();
+        let short = table.and(Err::<Table, _>(Refusal::by(26)));
+        write!(text, " {}:{} :", answer(&short), hex(&vec![UNUSED; count - 1])).unwrap();
     }
     text.push('\n');
     answers

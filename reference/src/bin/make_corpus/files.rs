@@ -5,6 +5,7 @@ use reference::generate::damage::damaged_file;
 use reference::generate::draft::Style;
 use reference::generate::prng::Prng;
 use reference::generate::tables::{accepted_table, largest_table, table_of};
+use reference::refusal::code_of;
 use reference::table::*;
 use reference::table_read::read_table;
 
@@ -77,7 +78,7 @@ pub fn damaged(corpus: &mut Corpus) {
             let mut rng = Prng::for_case(SEED, case);
             case += 1;
             let file = damaged_file(&mut rng, &modest_table(case), aim);
-            if read_table(&file) == Err(aim) {
+            if code_of(&read_table(&file)) == aim {
                 corpus.file(&file);
             }
         }

@@ -1,7 +1,7 @@
 //! Makes the corpus of the program `cases` and the text that it must write, with this
 //! implementation alone. The argument is a directory: the corpus goes to its file `stdin`, the text
 //! to its file `stdout`, and what they hold to standard error. It begins with the smallest example of
-//! each code 1 to 27.
+//! each code 1 to 28.
 //!
 //! The corpus is a list of records. Numbers of two bytes have the high byte first.
 //!
@@ -15,13 +15,13 @@
 //!
 //! A change is four bytes, as `record.rs` says.
 //!
-//! The text has a line for each record: answers, with a space between them. An answer is a code and,
-//! where bytes come with it, a colon and the bytes in hexadecimal.
-//! - A file that is refused has the reader's code. An accepted one has the reader's code, the writer's
-//!   code and bytes for a buffer as long as the file, its code for a buffer one byte shorter, and code
-//!   and route of the trains 0 to k + 1; of the trains 1 and k + 1 only where the file has 60 bytes or
-//!   more.
-//! - A list of steps has the run's code, the whole buffer lent for the answers, one byte longer than
+//! The text has a line for each record: answers, with a space between them. An answer is a code or a refusal
+//! and, where bytes come with it, a colon and the bytes in hexadecimal. A refusal is its code and, with 11 and
+//! 28, the train and the place, each after a comma; what is not refused has 0 in its place.
+//! - A file that is refused has the reader's refusal. An accepted one has 0, the writer's refusal and bytes for
+//!   a buffer as long as the file, its refusal for a buffer one byte shorter, and refusal and route of the
+//!   trains 0 to k + 1; of the trains 1 and k + 1 only where the file has 60 bytes or more.
+//! - A list of steps has the run's refusal, the whole buffer lent for the answers, one byte longer than
 //!   they are and filled with 77 before, and the line. Where there are steps, the same follows for a
 //!   buffer one byte too short.
 //! - A made-up line has the step's code, and the line.
@@ -35,8 +35,9 @@ mod examples;
 mod files;
 mod lines;
 
-use corpus::{Corpus, Counts, FEWEST};
+use corpus::{Corpus, FEWEST};
 use lines::FEWEST_AIMED;
+use reference::counts::{file_codes, step_codes, Counts, FILE_CODES};
 use reference::generate::made_up::AIMS;
 use std::path::Path;
 
@@ -46,11 +47,6 @@ const MOST_FILE: usize = 4_800;
 const MOST_TEXT: usize = 600_000;
 /// How many steps of lists have each code 0 and 13 to 25 at least.
 const FEWEST_STEPS: usize = 20;
-
-/// The codes of steps.
-fn step_codes() -> impl Iterator<Item = usize> {
-    std::iter::once(0).chain(13..=25)
-}
 
 /// The corpus, and how many files of its damaged part have each code.
 fn make() -> (Corpus, Counts) {
@@ -73,7 +69,7 @@ fn make() -> (Corpus, Counts) {
 
 /// What is amiss with a corpus, if anything.
 fn fault(corpus: &Corpus, aimed: &Counts) -> Option<String> {
-    let missed = (1..=12).find(|&code| aimed[code] < FEWEST);
+    let missed = FILE_CODES.map(usize::from).into_iter().find(|&code| aimed[code] < FEWEST);
     let rare = step_codes().find(|&code| corpus.list_codes[code] < FEWEST_STEPS);
     let unaimed = (0..AIMS.len()).find(|&i| corpus.aims[i] < FEWEST_AIMED);
     match missed {
@@ -109,8 +105,8 @@ fn print_counts(corpus: &Corpus, aimed: &Counts) {
     eprintln!("{files} files decided, {lists} lists with {steps} steps, {made_up} made-up records");
     eprintln!("corpus {} bytes, text {} bytes", corpus.records.len(), corpus.text.len());
     eprintln!("code  files  damaged part");
-    for (code, (count, aimed)) in corpus.counts.iter().zip(aimed).enumerate() {
-        eprintln!("{code:4} {count:6} {aimed:6}");
+    for code in file_codes() {
+        eprintln!("{code:4} {:6} {:6}", corpus.counts[code], aimed[code]);
     }
     eprintln!("code  steps of lists, on made-up records");
     for code in step_codes().chain([27]) {
@@ -127,7 +123,7 @@ mod tests {
     use super::*;
     use reference::fault::{Fault, FAULTS};
     use reference::line::start_line_with;
-    use reference::line_check::record_code;
+    use reference::line_check::record_fault_with;
     use reference::numbers::line_numbers;
     use reference::step::{step_with, Step};
     use reference::table_read::{read_table, read_table_with};
@@ -153,9 +149,10 @@ mod tests {
     }
 
     /// Each fault of the steps changes the text of some list or made-up record, but for records kept at
-    /// Clear, which no step tells, and 16 before 15, which no record that passes 27 tells.
+    /// Clear, which no step tells, and 16 before 15, which no record that passes 27 tells. Each fault of the
+    /// record check changes the text of some made-up record.
     #[test]
-    fn every_step_fault_shows() {
+    fn every_other_fault_shows() {
         let (corpus, _) = make();
         for &fault in FAULTS.iter().filter(|fault| !fault.in_reader()) {
             let run = |run: &corpus::Run, fault: Fault| {
@@ -166,7 +163,7 @@ mod tests {
             };
             let made = |made: &corpus::MadeUp, fault: Fault| {
                 let mut line = made.record.line();
-                let holds = record_code(&line) == 0;
+                let holds = record_fault_with(&line, fault).is_none();
                 holds.then(|| (step_with(&mut line, made.step, fault), line_numbers(&line)))
             };
             let lists = corpus.runs.iter().filter(|r| run(r, fault) != run(r, Fault::None)).count();
@@ -174,6 +171,7 @@ mod tests {
             println!("{fault:?} {lists} {records}");
             let untold = matches!(fault, Fault::RecordsKept | Fault::NextBeforeMessage);
             assert_eq!(lists + records > 0, !untold, "{fault:?}");
+            assert!(lists == 0 || fault.in_steps(), "{fault:?}");
         }
     }
 }

@@ -1,5 +1,5 @@
 //! Second implementation of the railway line engine, made from the scope
-//! paper alone. Everything but `fast` is plain code over vectors and bytes.
+//! paper and the paper of changes alone. Everything but `fast` is plain code over vectors and bytes.
 
 pub mod argument;
 pub mod atomic;

@@ -1,15 +1,19 @@
 //! Every list of steps on small tables: all lines that can be reached, with
-//! the third demand checked at each.
+//! the third demand checked at each. Every short route of two trains on table S.
 
 mod common;
 use common::*;
+use reference::counts::CODES;
 use reference::demand::Checker;
+use reference::fast;
 use reference::fault::Fault;
 use reference::line::{start_line, start_line_with, Line};
 use reference::line_check::record_code;
 use reference::step::{step, step_with, Step};
-use reference::table::Table;
+use reference::refusal::Refusal;
+use reference::table::{Table, TrainEntry};
 use reference::table_check::check_table;
+use reference::table_write::file_bytes;
 use std::collections::{BTreeSet, HashSet};
 
 /// All steps that differ in what they do, and some garbage.
@@ -153,4 +157,43 @@ fn faults_no_list_shows() {
     for fault in [Fault::SensorNotAsked, Fault::LockTakenOver, Fault::RecordedBeforePlace] {
         assert!(tables.iter().any(|t| told_apart(t, fault)), "{fault:?}");
     }
+}
+
+/// All routes of one to three segments 0 to 5, in both directions.
+fn short_routes() -> Vec<TrainEntry> {
+    let mut routes: Vec<Vec<u8>> = vec![vec![]];
+    let mut entries = Vec::new();
+    for _ in 0..3 {
+        let longer = |route: &Vec<u8>| (0..=5).map(|segment| [&route[..], &[segment]].concat()).collect::<Vec<_>>();
+        routes = routes.iter().flat_map(longer).collect();
+        let both = |route: &Vec<u8>| [0, 1].map(|direction| TrainEntry { direction, route: route.clone() });
+        entries.extend(routes.iter().flat_map(both));
+    }
+    entries
+}
+
+/// Both engines give 11 or 28 exactly where some place of a route is at fault, and then that of the place before which
+/// no place is; else 12 exactly where both trains have one first segment.
+#[test]
+fn all_short_routes_on_s() {
+    let routes = short_routes();
+    let mut table = s_with(&[(0, &[1]), (0, &[1])]);
+    let mut line = fast::Line::NONE;
+    let mut codes = [0; CODES];
+    for first in &routes {
+        table.trains[0].clone_from(first);
+        for second in &routes {
+            table.trains[1].clone_from(second);
+            let due = match faults_on_routes(&table).first() {
+                Some(&fault) => Err(fault),
+                None if first.route[0] == second.route[0] => Err(Refusal::by(12)),
+                None => Ok(()),
+            };
+            assert_eq!(check_table(&table), due, "{first:?} {second:?}");
+            assert_eq!(line.read(&file_bytes(&table)), due, "{first:?} {second:?}");
+            codes[due.err().map_or(0, |refusal| usize::from(refusal.code))] += 1;
+        }
+    }
+    assert_eq!(codes.iter().sum::<usize>(), routes.len() * routes.len());
+    assert!([0, 11, 12, 28].into_iter().all(|code| codes[code] > 100), "{codes:?}");
 }

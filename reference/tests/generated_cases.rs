@@ -1,16 +1,22 @@
 //! Generated tables, files, steps and faults hit what they are made for.
 
+mod common;
+use common::faults_on_routes;
 use reference::compare::{run_case, Outcome};
 use reference::counts::{file_codes, step_codes, CODES};
 use reference::demand::{check_demand, Clause};
 use reference::fault::{Fault, FAULTS};
 use reference::generate::damage::damaged_file;
+use reference::generate::made_up::{changes, AIMS};
 use reference::generate::prng::Prng;
-use reference::generate::steps::Driver;
+use reference::generate::steps::{drive, Driver};
 use reference::generate::tables::{accepted_table, largest_table};
 use reference::line::start_line;
+use reference::line_check::{record_fault, record_fault_with};
+use reference::record::Record;
 use reference::refusal::code_of;
 use reference::step::{step, Step};
+use reference::table::{Table, TrainEntry};
 use reference::table_read::{read_table, read_table_with, route_in_file};
 use reference::table_write::{file_bytes, write_table};
 
@@ -48,6 +54,60 @@ fn files_hit_every_code() {
         }
     }
     assert!(file_codes().all(|code| codes[code] > 0), "{codes:?}");
+}
+
+/// The refusal of a route's fault is the first of all faults on routes; and generated files have them in later trains
+/// and at later places, both kinds in both orders, on one route and on two, at a place that is both, and beside 10
+/// and 12.
+#[test]
+fn files_hit_every_order_of_route_faults() {
+    let mut seen = [0; 12];
+    for case in 0..CASES {
+        let mut rng = Prng::for_case(16, case);
+        let table = accepted_table(&mut rng);
+        for aim in 0..20 {
+            let file = damaged_file(&mut rng, &table, aim);
+            let code = code_of(&read_table(&file));
+            if !matches!(code, 0 | 10..=12 | 28) {
+                continue;
+            }
+            let records = records_of(&file);
+            let faults = faults_on_routes(&records);
+            let clash = records.trains.iter().enumerate().any(|(i, train)| {
+                records.trains[..i].iter().any(|other| other.route.first() == train.route.first())
+            });
+            let Some(first) = faults.first() else {
+                assert!(!matches!(code, 11 | 28));
+                continue;
+            };
+            if code == 10 {
+                seen[8 + usize::from(first.code == 28)] += 1;
+                continue;
+            }
+            assert_eq!(read_table(&file), Err(*first));
+            let row = 4 * usize::from(code == 28);
+            let other = faults.iter().find(|fault| fault.code != code);
+            seen[row] += u32::from(first.train > 1);
+            seen[row + 1] += u32::from(first.place > 2);
+            seen[row + 2] += u32::from(other.is_some_and(|other| other.train == first.train));
+            seen[row + 3] += u32::from(other.is_some_and(|other| other.train > first.train));
+            seen[10] += u32::from(code == 11 && first.place > 1);
+            seen[11] += u32::from(clash);
+        }
+    }
+    assert!(seen.iter().all(|&count| count > 10), "{seen:?}");
+}
+
+/// The table of a file that 1 to 9 let through, whatever its trains are.
+fn records_of(file: &[u8]) -> Table {
+    let (body, mut trains) = file.split_at(8 + 2 * usize::from(file[5]) + 5 * usize::from(file[6]));
+    let mut table = read_table(&[&body[..7], &[0], &body[8..]].concat()).expect("the network is accepted");
+    while let [direction, length, rest @ ..] = trains {
+        let (route, rest) = rest.split_at(usize::from(*length));
+        table.trains.push(TrainEntry { direction: *direction, route: route.to_vec() });
+        trains = rest;
+    }
+    table
 }
 
 #[test]
@@ -150,5 +210,24 @@ fn reader_faults_are_seen() {
             }
         }
         assert!(differ > 0, "{fault:?}");
+    }
+}
+
+/// Made-up records tell the faults of the record check.
+#[test]
+fn record_faults_are_seen() {
+    for &fault in FAULTS.iter().filter(|f| f.in_record()) {
+        let differs = |case: u64| {
+            let mut rng = Prng::for_case(17, case);
+            let mut line = start_line(&accepted_table(&mut rng));
+            drive(&mut rng, &mut line, 50);
+            AIMS.into_iter().filter_map(|aim| changes(&mut rng, &line, aim)).any(|changes| {
+                let mut record = Record::of(&line);
+                changes.iter().for_each(|&change| record.change(change));
+                let made_up = record.line();
+                record_fault(&made_up).is_some() && record_fault_with(&made_up, fault).is_none()
+            })
+        };
+        assert!((0..CASES).filter(|&case| differs(case)).count() > 20, "{fault:?}");
     }
 }

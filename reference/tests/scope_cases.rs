@@ -1,7 +1,9 @@
-//! The cases of the scope paper: "Checked on S and beside it".
+//! The cases of the scope paper: "Checked on S and beside it". Those of a refused route are as the paper of
+//! changes has them.
 
 mod common;
 use common::*;
+use reference::fast;
 use reference::line::start_line;
 use reference::printout::printout;
 use reference::refusal::Refusal;
@@ -77,14 +79,64 @@ fn two_links_make_a_loop() {
     assert_eq!(read_table(&file_bytes(&table)), Err(Refusal::by(9)));
 }
 
+/// Table S with these trains is refused by code, train and place: read, written, run and printed, and its routes.
+fn refused(trains: &[(u8, &[u8])], [code, train, place]: [u8; 3], printed: &str) {
+    let (table, refusal) = (s_with(trains), Refusal { code, train, place });
+    let file = file_bytes(&table);
+    assert_eq!(read_table(&file), Err(refusal));
+    for number in 0..=18 {
+        assert_eq!(route_in_file(&file, number), Err(refusal));
+    }
+    for room in [0, 46, 1000] {
+        let mut buffer = vec![7; room];
+        assert_eq!(write_table(&table, &mut buffer), Err(refusal));
+        assert_eq!(buffer, vec![7; room]);
+        assert_eq!(fast::run(&file, &S_STEPS, &mut buffer), Err(refusal));
+        assert_eq!(buffer, vec![7; room]);
+    }
+    assert_eq!(print(&file, &S_STEPS), printed);
+}
+
 #[test]
 fn routes_refused() {
-    let jump = s_with(&[(0, &[2, 3]), (1, &[4, 3, 1])]);
-    let refusal = Refusal { code: 28, train: 1, place: 2 };
-    assert_eq!(read_table(&file_bytes(&jump)), Err(refusal));
-    assert_eq!(print(&file_bytes(&jump), &S_STEPS), "file 28 1 2\n");
-    let clash = s_with(&[(0, &[1, 2, 4]), (1, &[1])]);
-    assert_eq!(read_table(&file_bytes(&clash)), Err(Refusal::by(12)));
+    refused(&[(0, &[2, 3]), (1, &[4, 3, 1])], [28, 1, 2], "file 28 1 2\n");
+    refused(&[(0, &[1, 2, 4]), (1, &[1])], [12, 0, 0], "file 12\n");
+}
+
+/// The first fault in file order counts, whichever it is.
+#[test]
+fn first_fault_of_either_kind() {
+    refused(&[(0, &[1, 2, 3]), (1, &[0, 3, 1])], [28, 1, 3], "file 28 1 3\n");
+    refused(&[(0, &[1, 2, 5]), (1, &[4, 1])], [11, 1, 3], "file 11 1 3\n");
+    refused(&[(0, &[1, 4, 0])], [28, 1, 2], "file 28 1 2\n");
+    refused(&[(0, &[1, 0, 4])], [11, 1, 2], "file 11 1 2\n");
+    refused(&[(0, &[1, 2, 4]), (1, &[4, 3, 2])], [28, 2, 3], "file 28 2 3\n");
+    // The last place of the last of sixteen trains.
+    let mut trains: Vec<(u8, &[u8])> = vec![(0, &[1, 2, 4]); 15];
+    let long = [&[1, 2, 4][..], &[9]].concat();
+    trains.push((0, &long));
+    refused(&trains, [11, 16, 4], "file 11 16 4\n");
+}
+
+/// A segment number that there is not follows nothing either: at one place 11 counts before 28.
+#[test]
+fn place_that_is_both() {
+    refused(&[(0, &[1, 5, 4])], [11, 1, 2], "file 11 1 2\n");
+    refused(&[(0, &[1, 2, 4]), (1, &[4, 255])], [11, 2, 2], "file 11 2 2\n");
+    refused(&[(1, &[0, 0])], [11, 1, 1], "file 11 1 1\n");
+}
+
+/// 10 of all trains comes before the search, 12 after it.
+#[test]
+fn around_the_search() {
+    let mut trains: Vec<(u8, &[u8])> = vec![(0, &[9, 2, 4]); 16];
+    trains[15] = (2, &[1]);
+    refused(&trains, [10, 0, 0], "file 10\n");
+    trains[15] = (0, &[]);
+    refused(&trains, [10, 0, 0], "file 10\n");
+    refused(&[(0, &[1, 2, 4]), (0, &[1, 2, 4]), (0, &[9])], [11, 3, 1], "file 11 3 1\n");
+    refused(&[(0, &[1, 2, 4]), (0, &[1, 2, 4]), (0, &[2, 3])], [28, 3, 2], "file 28 3 2\n");
+    refused(&[(0, &[1, 2, 4]), (0, &[2, 4]), (0, &[1, 3])], [12, 0, 0], "file 12\n");
 }
 
 #[test]

@@ -167,12 +167,12 @@ fn file_case(rng: &mut Prng, case: u64, table: &Table) {
     theorem(&format!("route-{case}"), &format!("routeOf {} {train}", list(&file_bytes(table))), &numbers);
 }
 
-/// Alters one number of a table.
+/// Alters one number of a table, or two of its routes.
 fn alter_table(rng: &mut Prng, table: &mut Table) {
     let segment = rng.below(table.segments.len());
     let b = rng.below(table.boxes.len());
     let number = rng.below(5) as u8;
-    match rng.below(8) {
+    match rng.below(12) {
         0 => table.version = rng.below(3) as u16,
         1 => table.segments[segment].a = number,
         2 => table.segments[segment].b = number,
@@ -180,21 +180,38 @@ fn alter_table(rng: &mut Prng, table: &mut Table) {
         4 => table.boxes[b].left = number,
         5 => table.boxes[b].position = number,
         6 => table.boxes[b].stem = number,
-        _ => {
+        7 => {
             if let Some(last) = table.trains.last_mut() {
                 last.direction ^= 1;
+            }
+        }
+        _ if table.trains.is_empty() => {}
+        // One or two segments of routes.
+        more => {
+            for _ in 8..=more.min(9) {
+                let train = rng.below(table.trains.len());
+                let place = rng.below(table.trains[train].route.len());
+                table.trains[train].route[place] = rng.below(table.segments.len() + 2) as u8;
             }
         }
     }
 }
 
-/// Damaged files.
+/// Damaged files, the first of them in its trains: what refuses it, what is printed for it, and the route of a train
+/// of the first one.
 fn damaged_case(rng: &mut Prng, case: u64, table: &Table) {
     for damage in 0..4 {
-        let aim = rng.below(20) as u8;
-        let file = damaged_file(rng, table, aim);
-        let numbers = numbers_of(&read_table(&file));
-        theorem(&format!("damaged-{case}-{damage}"), &format!("codeOf {}", list(&file)), &numbers);
+        let aim = if damage == 0 { rng.between(15, 19) } else { rng.below(20) };
+        let file = damaged_file(rng, table, aim as u8);
+        let (name, bytes) = (format!("{case}-{damage}"), list(&file));
+        let refusal = numbers_of(&read_table(&file));
+        theorem(&format!("damaged-{name}"), &format!("codeOf {bytes}"), &refusal);
+        if damage == 0 && refusal[0] != 0 {
+            let [code, train, place] = refusal;
+            let asked = rng.below(table.trains.len() + 2);
+            theorem(&format!("refused-text-{name}"), &format!("printed {bytes} []"), &printout(&file, &[]));
+            theorem(&format!("refused-route-{name}"), &format!("routeOf {bytes} {asked}"), &[code, train, place, 0]);
+        }
     }
 }
 
@@ -237,8 +254,9 @@ fn made_up_case(rng: &mut Prng, case: u64, table: &Table, steps: usize) {
         let mut line = start_line(table);
         let length = rng.between(0, steps);
         drive(rng, &mut line, length);
-        for _ in 0..rng.between(1, 3) {
-            alter(rng, &mut line);
+        match change {
+            0 => alter_route(rng, &mut line),
+            _ => (0..rng.between(1, 3)).for_each(|_| alter(rng, &mut line)),
         }
         if rng.chance(10) {
             alter_table(rng, &mut line.table);
@@ -252,6 +270,15 @@ fn made_up_case(rng: &mut Prng, case: u64, table: &Table, steps: usize) {
             &format!("checkedLine {} ({})", line_text(&line), step_text(bytes)),
             &numbers,
         );
+    }
+}
+
+/// Puts another segment of the table at one place of a route as it stands, which then most often jumps.
+fn alter_route(rng: &mut Prng, line: &mut Line) {
+    let (train, segment) = (rng.below(line.trains.len()), rng.between(1, line.table.segments.len()) as u8);
+    if let Some(train) = line.trains.get_mut(train) {
+        let place = rng.below(train.route.len());
+        train.route[place] = segment;
     }
 }
 

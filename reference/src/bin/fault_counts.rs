@@ -7,8 +7,13 @@ use reference::compare::run_case;
 use reference::demand::{Clauses, CLAUSES};
 use reference::fault::{Fault, FAULTS};
 use reference::generate::damage::damaged_file;
+use reference::generate::made_up::{changes, AIMS};
 use reference::generate::prng::Prng;
+use reference::generate::steps::drive;
 use reference::generate::tables::{accepted_table, walk};
+use reference::line::start_line;
+use reference::line_check::record_fault_with;
+use reference::record::Record;
 use reference::table::Table;
 use reference::table_read::{read_table, read_table_with};
 use reference::table_write::file_bytes;
@@ -51,13 +56,20 @@ fn main() {
         step_fault(fault, seed, cases, steps);
     }
     println!();
-    println!("wrongly accepted files are run on with the right steps, routes drawn anew");
+    println!("wrongly accepted files are run on with the right steps, routes drawn anew, but for those with a route on");
+    println!("a segment that is not there");
     println!(
         "{:27} {:>5} {:>6} {:>8} {:>8}  clauses broken, with files",
         "reader fault", "files", "differ", "accepted", "demand 3"
     );
     for &fault in [Fault::None].iter().chain(FAULTS).filter(|f| f.in_reader() || **f == Fault::None) {
         reader_fault(fault, seed, cases, steps);
+    }
+    println!();
+    println!("made-up records, each with one clause of 27 broken or none, after the steps of a list");
+    println!("{:27} {:>7} {:>6}", "record fault", "records", "differ");
+    for &fault in [Fault::None].iter().chain(FAULTS).filter(|f| f.in_record() || **f == Fault::None) {
+        record_fault(fault, seed, cases, steps);
     }
 }
 
@@ -93,6 +105,10 @@ fn reader_fault(fault: Fault, seed: u64, cases: u64, steps: usize) {
             differ += u64::from(right.as_ref().err() != faulty.as_ref().err());
             if let (Err(_), Ok(mut wrong)) = (right, faulty) {
                 accepted += 1;
+                let missing = |&segment: &u8| wrong.segment(segment).is_none();
+                if wrong.trains.iter().any(|t| t.route.iter().any(missing)) {
+                    continue;
+                }
                 draw_routes(&mut rng, &mut wrong, fault);
                 let outcome = run_case(&wrong, Fault::None, steps, false, &mut rng);
                 demand += u64::from(!outcome.broken.is_empty());
@@ -102,6 +118,26 @@ fn reader_fault(fault: Fault, seed: u64, cases: u64, steps: usize) {
     }
     let name = format!("{fault:?}");
     println!("{name:27} {files:5} {differ:6} {accepted:8} {demand:8}  {}", clauses.text());
+}
+
+/// Made-up records for each aim: where the faulty check differs on 27.
+fn record_fault(fault: Fault, seed: u64, cases: u64, steps: usize) {
+    let (mut records, mut differ) = (0, 0);
+    for case in 0..cases {
+        let mut rng = Prng::for_case(seed, case);
+        let mut line = start_line(&accepted_table(&mut rng));
+        drive(&mut rng, &mut line, steps);
+        for changes in AIMS.into_iter().filter_map(|aim| changes(&mut rng, &line, aim)) {
+            let mut record = Record::of(&line);
+            changes.iter().for_each(|&change| record.change(change));
+            let made_up = record.line();
+            let [right, faulty] = [Fault::None, fault].map(|fault| record_fault_with(&made_up, fault).is_some());
+            records += 1;
+            differ += u64::from(right != faulty);
+        }
+    }
+    let name = format!("{fault:?}");
+    println!("{name:27} {records:7} {differ:6}");
 }
 
 /// New routes over a network that was wrongly accepted, so that trains use

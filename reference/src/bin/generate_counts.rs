@@ -9,7 +9,7 @@ use reference::generate::prng::Prng;
 use reference::generate::steps::Driver;
 use reference::generate::tables::{accepted_table, largest_table};
 use reference::line::start_line;
-use reference::refusal::code_of;
+use reference::refusal::{code_of, numbers_of};
 use reference::step::step;
 use reference::table_read::read_table;
 use reference::table_write::file_bytes;
@@ -19,6 +19,8 @@ fn main() {
     let (damages, steps) = (argument(3, 40), argument(4, 2000));
     let mut file_codes = [0; CODES];
     let mut step_codes = [0; CODES];
+    // 11 and 28, in train 1 and in later ones, at places 1 to 4 and later ones.
+    let mut places = [[[0; 5]; 2]; 2];
     let (mut refused, mut farthest, mut most) = (0, 0, [0; 4]);
     for case in 0..tables {
         let mut rng = Prng::for_case(seed, case);
@@ -32,7 +34,13 @@ fn main() {
         file_codes[usize::from(code)] += 1;
         for i in 0..damages {
             let damaged = damaged_file(&mut rng, &table, (i % 20) as u8);
-            file_codes[usize::from(code_of(&read_table(&damaged)))] += 1;
+            let [code, train, place] = numbers_of(&read_table(&damaged));
+            file_codes[usize::from(code)] += 1;
+            if train != 0 {
+                let row = usize::from(code == 28);
+                let place = usize::from(place.min(5)) - 1;
+                places[row][usize::from(train > 1)][place] += 1;
+            }
         }
         let longest = table.trains.iter().map(|t| t.route.len()).max().unwrap_or(0);
         let sizes = [table.segments.len(), table.boxes.len(), table.trains.len(), longest];
@@ -52,4 +60,10 @@ fn main() {
     println!("most segments, boxes, trains, route length: {most:?}");
     println!("most segments entered by one train: {farthest}");
     print_codes(&file_codes, &step_codes);
+    println!("code  train        at place 1, 2, 3, 4 and later ones");
+    for (code, by_train) in [11, 28].into_iter().zip(places) {
+        for (train, counts) in ["1", "later ones"].into_iter().zip(by_train) {
+            println!("{code:4}  {train:10} {counts:6?}");
+        }
+    }
 }

@@ -1,15 +1,31 @@
-//! Damaged files: directed changes for each code 1 to 12 and blind ones.
+//! Damaged files: directed changes for each code of a file and blind ones.
 //! A directed change may still give another code, or none.
 
 use super::prng::Prng;
 use crate::table::*;
 use crate::table_write::file_bytes;
 
-/// The file of a table, damaged in a way meant for code `aim`. Aims 13 to 16
-/// put two damages in one table, so that the order of codes shows; any
-/// other aim damages blindly.
+/// The codes of records in the order in which they are looked at, 11 and 28 together.
+const RECORD_CODES: [u8; 8] = [6, 7, 8, 9, 10, 11, 28, 12];
+
+/// The file of a table, damaged in a way meant for code `aim`. Other aims below 20 put more than one damage in
+/// a table, so that the order of codes shows: 13 and 14 two of any codes, 15 to 17 some faults on routes, 18
+/// some faults of trains. 19 is meant for code 28 too. Any other aim damages blindly.
 pub fn damaged_file(rng: &mut Prng, table: &Table, aim: u8) -> Vec<u8> {
     let mut t = table.clone();
+    match aim {
+        6..=12 | 28 => damage_table(rng, &mut t, aim),
+        13 | 14 => {
+            let later = rng.between(1, RECORD_CODES.len() - 1);
+            let earlier = rng.below(later);
+            damage_table(rng, &mut t, RECORD_CODES[later]);
+            damage_table(rng, &mut t, RECORD_CODES[earlier]);
+        }
+        15..=17 => damage_routes(rng, &mut t),
+        18 => damage_trains(rng, &mut t),
+        19 => damage_table(rng, &mut t, 28),
+        _ => {}
+    }
     let mut file = file_bytes(&t);
     match aim {
         1 => file.truncate(rng.below(8)),
@@ -21,42 +37,41 @@ pub fn damaged_file(rng: &mut Prng, table: &Table, aim: u8) -> Vec<u8> {
             file[5 + field] = rng.pick(wrong[field]);
         }
         5 => change_length(rng, &t, &mut file),
-        6..=12 => {
-            damage_table(rng, &mut t, aim);
-            file = file_bytes(&t);
-        }
-        13..=16 => {
-            let later = rng.between(7, 12) as u8;
-            damage_table(rng, &mut t, later);
-            let earlier = rng.between(6, later as usize - 1) as u8;
-            damage_table(rng, &mut t, earlier);
-            file = file_bytes(&t);
-        }
-        _ => {}
-    }
-    if aim == 0 || aim > 16 {
-        for _ in 0..rng.between(1, 3) {
-            let at = rng.below(file.len());
-            file[at] = match rng.below(3) {
-                0 => rng.byte(),
-                1 => file[at].wrapping_add(1),
-                _ => rng.below(6) as u8,
-            };
-        }
+        6..=19 | 28 => {}
+        _ => blind_damage(rng, &mut file),
     }
     file
 }
 
-/// Damages one record in a way meant for a code from 6 to 12.
+/// Some bytes, whatever they mean.
+fn blind_damage(rng: &mut Prng, file: &mut [u8]) {
+    for _ in 0..rng.between(1, 3) {
+        let at = rng.below(file.len());
+        file[at] = match rng.below(3) {
+            0 => rng.byte(),
+            1 => file[at].wrapping_add(1),
+            _ => rng.below(6) as u8,
+        };
+    }
+}
+
+/// Damages one record in a way meant for a code of `RECORD_CODES`.
 fn damage_table(rng: &mut Prng, t: &mut Table, aim: u8) {
     match aim {
         6 => damage_ends(rng, t),
         7 => damage_box(rng, t),
         8 => damage_listing(rng, t),
         9 => close_loop(rng, t),
-        10 => damage_route_shape(rng, t),
-        11 => damage_route(rng, t),
-        _ => repeat_first(rng, t),
+        12 => repeat_first(rng, t),
+        _ if t.trains.is_empty() => {}
+        10 => {
+            let at = rng.below(t.trains.len());
+            damage_route_shape(rng, t, at);
+        }
+        _ => {
+            let at = rng.below(t.trains.len());
+            damage_route(rng, t, at, aim);
+        }
     }
 }
 
@@ -165,11 +180,7 @@ fn close_loop(rng: &mut Prng, t: &mut Table) {
 }
 
 /// 10: direction or length.
-fn damage_route_shape(rng: &mut Prng, t: &mut Table) {
-    if t.trains.is_empty() {
-        return;
-    }
-    let at = rng.below(t.trains.len());
+fn damage_route_shape(rng: &mut Prng, t: &mut Table, at: usize) {
     let train = &mut t.trains[at];
     match rng.below(3) {
         0 => train.direction = rng.between(2, 255) as u8,
@@ -178,21 +189,57 @@ fn damage_route_shape(rng: &mut Prng, t: &mut Table) {
     }
 }
 
-/// 11: a route that leaves the network or jumps.
-fn damage_route(rng: &mut Prng, t: &mut Table) {
+/// 11: a segment that the table lacks; 28: a route that jumps, all its segments in the table.
+fn damage_route(rng: &mut Prng, t: &mut Table, at: usize, aim: u8) {
+    let n = t.segments.len();
+    let train = &mut t.trains[at];
+    let (length, any) = (train.route.len(), rng.between(1, n) as u8);
+    let place = rng.below(length);
+    match (aim, rng.below(8)) {
+        (11, 0..=3) => train.route[place] = 0,
+        (11, 4 | 5) => train.route[place] = n as u8 + 1,
+        (11, _) => train.route[place] = rng.between(n + 1, 255) as u8,
+        (_, 0) if length < MAX_ROUTE => train.route.push(any),
+        (_, _) if length == 1 => train.route.push(train.route[0]),
+        (_, 0 | 1) => train.direction = 1 - train.direction,
+        (_, 2) => train.route.reverse(),
+        // A segment left out, or named twice.
+        (_, 3) if place > 0 => drop(train.route.remove(place)),
+        (_, 4) if place > 0 => train.route[place] = train.route[place - 1],
+        _ => train.route[place] = any,
+    }
+}
+
+/// Two to four faults of both kinds on routes, some of them on one route.
+fn damage_routes(rng: &mut Prng, t: &mut Table) {
     if t.trains.is_empty() {
         return;
     }
-    let n = t.segments.len();
-    let at = rng.below(t.trains.len());
-    let train = &mut t.trains[at];
-    let place = rng.below(train.route.len());
-    match rng.below(5) {
-        0 => train.route[place] = 0,
-        1 => train.route[place] = rng.between(n + 1, 255) as u8,
-        2 => train.route[place] = rng.between(1, n) as u8,
-        3 => train.direction = 1 - train.direction,
-        _ => train.route.reverse(),
+    let mut at = rng.below(t.trains.len());
+    for _ in 0..rng.between(2, 4) {
+        let code = rng.pick(&[11, 28]);
+        damage_route(rng, t, at, code);
+        if rng.chance(60) {
+            at = rng.below(t.trains.len());
+        }
+    }
+}
+
+/// A fault on the first route or on any other, and two trains with one first segment, or direction or
+/// length of the last train, or both of these.
+fn damage_trains(rng: &mut Prng, t: &mut Table) {
+    if t.trains.is_empty() {
+        return;
+    }
+    let also = rng.below(3);
+    if also != 0 {
+        repeat_first(rng, t);
+    }
+    let (any, code) = (rng.below(t.trains.len()), rng.pick(&[11, 28]));
+    let at = rng.pick(&[0, any]);
+    damage_route(rng, t, at, code);
+    if also != 1 {
+        damage_route_shape(rng, t, t.trains.len() - 1);
     }
 }
 

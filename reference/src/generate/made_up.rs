@@ -135,8 +135,8 @@ fn fits(line: &Line, i: usize, aim: Aim) -> bool {
     match aim {
         // Another direction is read as back, so that the route still follows then.
         Aim::Direction => idle && (train.direction == 1 || train.route.len() == 1),
-        Aim::Route => train.route.len() > train.front + 2,
-        Aim::Jump(direction) => train.direction == direction && train.route.len() > train.front + 2,
+        Aim::Route => !free_places(train).is_empty(),
+        Aim::Jump(direction) => train.direction == direction && !free_places(train).is_empty(),
         Aim::PlaceBeyond => idle && train.covered == 1,
         Aim::PlaceZero | Aim::Length => idle,
         Aim::TailOutside => train.front == 0,
@@ -144,6 +144,13 @@ fn fits(line: &Line, i: usize, aim: Aim) -> bool {
         Aim::WrongBox | Aim::AnswerCode => train.next_segment().is_some(),
         _ => true,
     }
+}
+
+/// The places of a route, from 0, of which no message speaks.
+fn free_places(train: &TrainState) -> Vec<u8> {
+    let spoken_of = |place: usize| place == train.front || place == train.front + 1;
+    let free = |&place: &usize| train.message == Message::None || !spoken_of(place);
+    (0..train.route.len()).filter(free).map(|place| place as u8).collect()
 }
 
 fn train_changes(rng: &mut Prng, line: &Line, i: usize, aim: Aim) -> Vec<Change> {
@@ -154,7 +161,7 @@ fn train_changes(rng: &mut Prng, line: &Line, i: usize, aim: Aim) -> Vec<Change>
         Aim::Direction => vec![[b't', t, 0, rng.pick(&[2, 3, 255])]],
         Aim::Length => vec![[b't', t, 1, rng.pick(&[0, 65, 128, 255])]],
         Aim::Route | Aim::Jump(_) => {
-            let place = rng.between(train.front + 2, train.route.len() - 1) as u8;
+            let place = rng.pick(&free_places(train));
             let segment = match aim {
                 Aim::Route => rng.pick(&[0, n as u8 + 1, 255]),
                 _ => rng.between(1, n) as u8,

@@ -4,6 +4,7 @@
 pub mod page;
 
 use reference::line::{start_line, Line};
+use reference::refusal::Refusal;
 use reference::step::{step, step_checked, Step};
 use reference::table::{Segment, SwitchBox, Table, TrainEntry};
 use reference::table_read::read_table;
@@ -85,4 +86,29 @@ pub fn table_96() -> Table {
     route.truncate(64);
     table.trains = entries(&[(0, &route), (1, &[96, 95, 94, 92])]);
     table
+}
+
+/// Every place of a route that is at fault, trains in file order and each route from its start, with the code that the
+/// place has by itself: 11 where the segment is 0 or above n, else 28 where it does not follow the one before.
+pub fn faults_on_routes(table: &Table) -> Vec<Refusal> {
+    let n = table.segments.len();
+    let mut faults = Vec::new();
+    for (i, TrainEntry { direction, route }) in table.trains.iter().enumerate() {
+        for (j, &segment) in route.iter().enumerate() {
+            let there = |number: u8| number >= 1 && usize::from(number) <= n;
+            let ends = |number: u8| table.segments[usize::from(number) - 1];
+            let follows = |before: u8| match direction {
+                0 => ends(before).b == ends(segment).a,
+                _ => ends(before).a == ends(segment).b,
+            };
+            let code = match j {
+                _ if !there(segment) => 11,
+                0 => continue,
+                _ if there(route[j - 1]) && follows(route[j - 1]) => continue,
+                _ => 28,
+            };
+            faults.push(Refusal { code, train: i as u8 + 1, place: j as u8 + 1 });
+        }
+    }
+    faults
 }

@@ -1,6 +1,7 @@
 //! The files of the corpus: table S and its changes, generated tables, damaged ones, and some by hand.
 
 use crate::corpus::{Corpus, FEWEST, S, SEED};
+use reference::counts::FILE_CODES;
 use reference::generate::damage::damaged_file;
 use reference::generate::draft::Style;
 use reference::generate::prng::Prng;
@@ -72,7 +73,7 @@ fn random_change(rng: &mut Prng, corpus: &mut Corpus) {
 /// Files damaged for each code that have it, then files with two damages or blind ones.
 pub fn damaged(corpus: &mut Corpus) {
     let mut case = 1000;
-    for aim in 1..=12 {
+    for aim in FILE_CODES {
         let most = corpus.counts[aim as usize] + FEWEST + 2;
         while corpus.counts[aim as usize] < most {
             let mut rng = Prng::for_case(SEED, case);
@@ -84,7 +85,7 @@ pub fn damaged(corpus: &mut Corpus) {
         }
     }
     for aim in 13..=20 {
-        for _ in 0..5 {
+        for _ in 0..6 {
             let mut rng = Prng::for_case(SEED, case);
             case += 1;
             corpus.file(&damaged_file(&mut rng, &modest_table(case), aim));
@@ -134,6 +135,7 @@ pub fn by_hand(corpus: &mut Corpus) {
             t.trains[1 - train].route.clear();
         }));
     }
+    route_faults(corpus, &s);
     // Length bytes that run past the end, by one, by a few and by as much as can be.
     for value in [4, 9, 10, 11, 255] {
         corpus.file(S);
@@ -155,6 +157,43 @@ pub fn by_hand(corpus: &mut Corpus) {
         corpus.table(&ring(boxes));
     }
     corpus.file(&[0x4E, 0x45, 0x54, 0, 1, 1, 2, 0, 1, 2, 0, 1, 0, 0, 0, 0, 1, 0, 0, 0]);
+}
+
+/// Table S with routes at fault: of both kinds, in both orders, on one route and on two, at one place, beside
+/// 10 in the last train and beside 12.
+fn route_faults(corpus: &mut Corpus, s: &Table) {
+    let mut with = |trains: &[(u8, &[u8])]| {
+        let trains = trains.iter().map(|&(direction, route)| TrainEntry { direction, route: route.to_vec() });
+        corpus.table(&Table { trains: trains.collect(), ..s.clone() });
+    };
+    let (jump, number): (&[u8], &[u8]) = (&[1, 2, 3], &[5, 3, 1]);
+    // Faults in two trains: the first train's counts.
+    with(&[(0, jump), (1, number)]);
+    with(&[(1, number), (0, jump)]);
+    with(&[(0, jump), (1, &[4, 2, 3])]);
+    with(&[(0, &[1, 2, 4]), (1, number), (0, jump)]);
+    with(&[(0, &[1, 2, 4]), (0, jump), (1, number)]);
+    // Faults on one route: the first place counts; at one place 11.
+    with(&[(0, &[1, 4, 0])]);
+    with(&[(0, &[1, 0, 4])]);
+    with(&[(0, &[1, 2, 5, 1])]);
+    with(&[(0, &[0, 1])]);
+    with(&[(0, &[1, 1])]);
+    with(&[(1, &[1, 255])]);
+    // 12 after both, 10 of the last train before both.
+    with(&[(0, &[1, 2, 4]), (1, &[1, 2])]);
+    with(&[(0, &[1, 2, 4]), (1, &[1, 5])]);
+    with(&[(0, number), (1, jump), (0, &[])]);
+    with(&[(0, jump), (1, number), (2, &[4])]);
+    // Sixteen trains with one fault each, and the last one alone at fault.
+    let mut trains: Vec<(u8, &[u8])> = vec![(0, &[1, 2, 4]); 16];
+    trains[15] = (0, jump);
+    with(&trains);
+    trains[15] = (0, number);
+    with(&trains);
+    trains[15] = (2, &[1]);
+    trains[0] = (0, number);
+    with(&trains);
 }
 
 /// As many links as segments, in a ring.

@@ -49,6 +49,10 @@ pub fn paper_lists(corpus: &mut Corpus) {
     with(corpus, &[(0, &[2, 4]), (0, &[3, 4])], &contest.concat());
     with(corpus, &[(0, &[1])], &[5, 1, 0, 6, 1, 0]);
     with(corpus, &[], &[1, 1, 1, 5, 1, 0, 0, 0, 0, 3]);
+    // Refused routes: the run tells train and place.
+    with(corpus, &[(0, &[2, 3]), (1, &[4, 3, 1])], S_STEPS);
+    with(corpus, &[(0, &[1, 2, 4]), (1, &[4, 3, 5])], S_STEPS);
+    with(corpus, &[(0, &[1, 2, 4]), (1, &[1])], S_STEPS);
     // A refused file: the buffer stays, whatever the steps.
     corpus.file(&S[..45]);
     corpus.steps(S_STEPS);

@@ -181,13 +181,15 @@ impl<'a> Records<'a> {
     /// before (28).
     fn route_fault(&self, direction: u8, route: &[u8]) -> Option<(u8, u8)> {
         let far = usize::from(direction == 0);
-        // The box that the segment has to begin at; 0, where no segment does, stands for any.
-        let mut from = 0;
-        for (i, &segment) in route.iter().enumerate() {
-            let ends = self.segments.get(usize::from(segment).wrapping_sub(1));
-            match ends {
-                Some(ends) if from == 0 || ends[1 - far] == from => from = ends[far],
-                _ => return Some((if ends.is_none() { 11 } else { 28 }, i as u8 + 1)),
+        let ends = |segment: u8| self.segments.get(usize::from(segment).wrapping_sub(1));
+        let Some(mut before) = ends(route[0]) else {
+            return Some((11, 1));
+        };
+        for (place, &segment) in (2..).zip(&route[1..]) {
+            match ends(segment) {
+                Some(after) if before[far] == after[1 - far] => before = after,
+                Some(_) => return Some((28, place)),
+                None => return Some((11, place)),
             }
         }
         None

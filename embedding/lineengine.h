@@ -10,15 +10,19 @@
  * what that means for a unit.
  *
  * Any bytes may be passed as table, steps and input: what is wrong with them is answered by a code. With any code but
- * LINEENGINE_ACCEPTED nothing was done: all memory that was passed is as it was.
+ * LINEENGINE_ACCEPTED nothing was done: all memory that was passed is as it was, except `*train` and `*place`.
+ *
+ * Every call that takes `train` and `place` sets both, refused or not, whatever stood there. With codes 11 and 28 they are the
+ * train and the place on its route for which the table is refused, both counted from 1; docs/CODES.md says which byte of the table
+ * that is. With every other code both are 0.
  *
  * What the proofs assume of the caller, in the terms of C:
  *
  *   - A pointer points to as many bytes as the length or room beside it says, which is at most PTRDIFF_MAX. With length or room 0
- *     it is not used, and may be NULL. `text_length` has no length beside it: it points to a size_t in every call, refused ones
- *     too.
- *   - What is written (no `const`) overlaps nothing else that is passed in the same call. What is only read may overlap what is
- *     only read.
+ *     it is not used, and may be NULL. `text_length`, `train` and `place` have no length beside them: in every call, refused ones
+ *     too, they point to a size_t and to a byte each, and are never NULL.
+ *   - What is written (no `const`) overlaps nothing else that is passed in the same call: `train` and `place` are two different
+ *     bytes, outside every buffer. What is only read may overlap what is only read.
  *   - While a call runs, nothing else writes what was passed, and nothing else reads what the call writes.
  *
  * The library keeps nothing between calls, so calls that write different memory may run at the same time.
@@ -36,7 +40,7 @@ extern "C" {
 /* The version of this interface. The second number grows when something is added and every program that was right stays right;
  * the first grows, and the second is 0 again, when a name, a parameter, a code, a size or a promise changes. It is not the
  * version in the head of a table. */
-#define LINEENGINE_VERSION_MAJOR 1
+#define LINEENGINE_VERSION_MAJOR 2
 #define LINEENGINE_VERSION_MINOR 0
 
 /* The bytes of stack that are enough for any call. */
@@ -59,7 +63,8 @@ enum lineengine_code {
     LINEENGINE_TRACK_HAS_LOOP = 9,         /* segments follow one another back to the first */
     /* The table is refused, by its trains. */
     LINEENGINE_TRAIN_OUT_OF_RANGE = 10,    /* a direction is not 0 or 1, or a route has not 1 to 64 segments */
-    LINEENGINE_ROUTE_OFF_TRACK = 11,       /* a route has a segment that there is not, or that does not follow the one before */
+    LINEENGINE_ROUTE_SEGMENT_UNKNOWN = 11, /* a route has a segment that there is not; `train` and `place` say where */
+    LINEENGINE_ROUTE_NOT_FOLLOWING = 28,   /* a segment does not follow the one before; `train` and `place` say where */
     LINEENGINE_START_SHARED = 12,          /* two trains start on one segment */
 
     /* A step is refused; only in `answers`. Nothing has changed. */
@@ -102,10 +107,11 @@ enum lineengine_code {
 #define LINEENGINE_TEXT_ROOM(steps) (18 * ((size_t)(steps) + 113))
 
 /*
- * The code of a table: 0, or the first of 1 to 12 that refuses it.
+ * The code of a table: 0, or the first of 1 to 12 and 28 that refuses it. 11 and 28 are one search, after 10 and before 12: train
+ * by train, each route from its start, at one place 11 before 28.
  * NULL with length 0: `table` is a table of no bytes, code 1.
  */
-uint8_t lineengine_check(const uint8_t *table, size_t table_length);
+uint8_t lineengine_check(const uint8_t *table, size_t table_length, uint8_t *train, uint8_t *place);
 
 /*
  * Runs the steps from the start of the table's line on, and stores the code of each of them in `answers`, which needs a byte for
@@ -115,7 +121,8 @@ uint8_t lineengine_check(const uint8_t *table, size_t table_length);
  */
 uint8_t lineengine_run(const uint8_t *table, size_t table_length,
                        const uint8_t *steps, size_t steps_length,
-                       uint8_t *answers, size_t answers_room);
+                       uint8_t *answers, size_t answers_room,
+                       uint8_t *train, uint8_t *place);
 
 /*
  * Stores the printout of a run at the front of `text` and its length in `*text_length`, and the codes of the steps in `answers`.
@@ -123,7 +130,7 @@ uint8_t lineengine_run(const uint8_t *table, size_t table_length,
  * Room needed: LINEENGINE_PRINTED_STEPS(input_length) for `answers`, and of that number LINEENGINE_TEXT_ROOM for `text`, however
  * short the text then is. Bytes beyond the text and the answers stay as they were.
  * Answers 0, or 26 where a buffer is too short; `*text_length` is then as it was, too. A refused table is no refusal of the
- * printout: it prints `file` and the table's code, and `answers` is as it was.
+ * printout: it prints `file` and the table's code, with 11 and 28 train and place after it, and `answers` is as it was.
  * NULL with length 0: `table` is a table of no bytes, printed as `file 1`; `input` are no steps; `answers` is room enough for no
  * steps alone; `text` is always too short. `text_length` is never NULL.
  */
@@ -139,7 +146,8 @@ uint8_t lineengine_print(const uint8_t *table, size_t table_length,
  * NULL with length 0: `table` is a table of no bytes, code 1; `buffer` is too short for every accepted table.
  */
 uint8_t lineengine_write_back(const uint8_t *table, size_t table_length,
-                              uint8_t *buffer, size_t buffer_room);
+                              uint8_t *buffer, size_t buffer_room,
+                              uint8_t *train, uint8_t *place);
 
 #ifdef __cplusplus
 }

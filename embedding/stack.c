@@ -19,7 +19,7 @@ static uint8_t table[LINEENGINE_MOST_TABLE + 1], back[LINEENGINE_MOST_TABLE + 1]
 static uint8_t steps[3 * MOST_STEPS], answers[MOST_STEPS];
 static uint8_t text[LINEENGINE_TEXT_ROOM(MOST_STEPS)];
 static size_t table_length, steps_length, text_length;
-static uint8_t code;
+static uint8_t code, train, place;
 
 static void *nothing(void *none)
 {
@@ -28,13 +28,13 @@ static void *nothing(void *none)
 
 static void *check(void *none)
 {
-    code = lineengine_check(table, table_length);
+    code = lineengine_check(table, table_length, &train, &place);
     return none;
 }
 
 static void *run(void *none)
 {
-    code = lineengine_run(table, table_length, steps, steps_length, answers, sizeof answers);
+    code = lineengine_run(table, table_length, steps, steps_length, answers, sizeof answers, &train, &place);
     return none;
 }
 
@@ -46,7 +46,7 @@ static void *print(void *none)
 
 static void *write_back(void *none)
 {
-    code = lineengine_write_back(table, table_length, back, sizeof back);
+    code = lineengine_write_back(table, table_length, back, sizeof back, &train, &place);
     return none;
 }
 

@@ -24,8 +24,10 @@ pub const SEGMENTS_BOXES_DIFFER: u8 = 8;
 pub const TRACK_HAS_LOOP: u8 = 9;
 /// A direction is not 0 or 1, or a route has not 1 to 64 segments.
 pub const TRAIN_OUT_OF_RANGE: u8 = 10;
-/// A route has a segment that there is not, or that does not follow the one before.
-pub const ROUTE_OFF_TRACK: u8 = 11;
+/// A route has a segment that there is not; `RoutePlace` says where.
+pub const ROUTE_SEGMENT_UNKNOWN: u8 = 11;
+/// A segment of a route does not follow the one before; `RoutePlace` says where.
+pub const ROUTE_NOT_FOLLOWING: u8 = 28;
 /// Two trains start on one segment.
 pub const START_SHARED: u8 = 12;
 

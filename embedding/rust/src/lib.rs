@@ -10,11 +10,17 @@
 //! that was lent as it was.
 //!
 //! ```
-//! use lineengine::{check, code, run, Refusal};
+//! use lineengine::{check, code, run, Refusal, RoutePlace};
 //! let table = [0x4E, 0x45, 0x54, 0, 1, 1, 2, 0, 1, 2, 0, 1, 0, 0, 0, 0, 1, 0, 0, 0];
 //! let mut answers = [0; 2];
 //! assert_eq!(run(&table, &[1, 1, 1, 7, 0, 0], &mut answers), Ok(&[code::NO_SUCH_TRAIN, code::NO_SUCH_STEP][..]));
-//! assert_eq!(check(&table[..19]), Err(Refusal::Table(code::WRONG_TABLE_LENGTH)));
+//! assert_eq!(check(&table[..19]), Err(Refusal::Table { code: code::WRONG_TABLE_LENGTH, at: None }));
+//!
+//! // A train whose route is segment 1 and then segment 1 again.
+//! let table = [0x4E, 0x45, 0x54, 0, 1, 1, 2, 1, 1, 2, 0, 1, 0, 0, 0, 0, 1, 0, 0, 0, 0, 2, 1, 1];
+//! let refusal = Refusal::Table { code: code::ROUTE_NOT_FOLLOWING, at: Some(RoutePlace { train: 1, place: 2 }) };
+//! assert_eq!(check(&table), Err(refusal));
+//! assert_eq!(refusal.to_string(), "28: the table is refused, train 1, place 2 on its route");
 //! ```
 #![no_std]
 
@@ -22,10 +28,10 @@ pub mod code;
 pub mod raw;
 mod refusal;
 
-pub use refusal::{Buffer, Refusal};
+pub use refusal::{Buffer, Refusal, RoutePlace};
 
 /// The version of the interface, as in embedding/lineengine.h, which says when it changes.
-pub const VERSION: (u32, u32) = (1, 0);
+pub const VERSION: (u32, u32) = (2, 0);
 
 /// The bytes of stack that are enough for any call.
 pub const STACK: usize = 65_536;
@@ -56,29 +62,40 @@ pub const fn text_room(steps: usize) -> usize {
 
 /// Whether the table is accepted.
 pub fn check(table: &[u8]) -> Result<(), Refusal> {
-    // SAFETY: the function reads the slice and nothing else.
-    match unsafe { raw::lineengine_check(table.as_ptr(), table.len()) } {
+    let (mut train, mut place) = (0, 0);
+    // SAFETY: the function reads the slice and writes `train` and `place` alone.
+    match unsafe { raw::lineengine_check(table.as_ptr(), table.len(), &mut train, &mut place) } {
         code::ACCEPTED => Ok(()),
-        code => Err(Refusal::Table(code)),
+        code => Err(Refusal::of_table(code, train, place)),
     }
 }
 
 /// Runs the steps from the start of the table's line on. The codes of the steps, which stand at the front of `answers`.
 pub fn run<'a>(table: &[u8], steps: &[u8], answers: &'a mut [u8]) -> Result<&'a [u8], Refusal> {
     let (needed, room) = (steps_in(steps.len()), answers.len());
-    // SAFETY: the function reads both slices and writes within `answers`, which overlaps neither.
+    let (mut train, mut place) = (0, 0);
+    // SAFETY: the function reads `table` and `steps` and writes within `answers`, `train` and `place`, of which no two overlap.
     let code = unsafe {
-        raw::lineengine_run(table.as_ptr(), table.len(), steps.as_ptr(), steps.len(), answers.as_mut_ptr(), room)
+        raw::lineengine_run(
+            table.as_ptr(),
+            table.len(),
+            steps.as_ptr(),
+            steps.len(),
+            answers.as_mut_ptr(),
+            room,
+            &mut train,
+            &mut place,
+        )
     };
     match code {
         code::ACCEPTED => Ok(&answers[..needed]),
         code::BUFFER_TOO_SHORT => Err(Refusal::TooShort { buffer: Buffer::Answers, needed, room }),
-        code => Err(Refusal::Table(code)),
+        code => Err(Refusal::of_table(code, train, place)),
     }
 }
 
 /// The printout of a run, which stands at the front of `text`; the codes of its steps stand at the front of `answers`. A refused
-/// table prints its code.
+/// table prints its code, with 11 and 28 train and place after it.
 pub fn print<'a>(table: &[u8], input: &[u8], answers: &mut [u8], text: &'a mut [u8]) -> Result<&'a [u8], Refusal> {
     let mut length = 0;
     // SAFETY: the function reads `table` and `input` and writes within `answers`, `text` and `length`, of which no two overlap.
@@ -113,10 +130,13 @@ fn too_short_to_print(input: &[u8], answers: &[u8], text: &[u8]) -> Refusal {
 /// Reads the table and writes it out again. The bytes that were read, which stand at the front of `buffer`.
 pub fn write_back<'a>(table: &[u8], buffer: &'a mut [u8]) -> Result<&'a [u8], Refusal> {
     let (needed, room) = (table.len(), buffer.len());
-    // SAFETY: the function reads `table` and writes within `buffer`, which does not overlap it.
-    match unsafe { raw::lineengine_write_back(table.as_ptr(), needed, buffer.as_mut_ptr(), room) } {
+    let (mut train, mut place) = (0, 0);
+    // SAFETY: the function reads `table` and writes within `buffer`, `train` and `place`, of which no two overlap.
+    let code =
+        unsafe { raw::lineengine_write_back(table.as_ptr(), needed, buffer.as_mut_ptr(), room, &mut train, &mut place) };
+    match code {
         code::ACCEPTED => Ok(&buffer[..needed]),
         code::BUFFER_TOO_SHORT => Err(Refusal::TooShort { buffer: Buffer::Table, needed, room }),
-        code => Err(Refusal::Table(code)),
+        code => Err(Refusal::of_table(code, train, place)),
     }
 }

@@ -3,7 +3,7 @@
 
 #[link(name = "lineengine", kind = "static")]
 extern "C" {
-    pub fn lineengine_check(table: *const u8, table_length: usize) -> u8;
+    pub fn lineengine_check(table: *const u8, table_length: usize, train: *mut u8, place: *mut u8) -> u8;
 
     pub fn lineengine_run(
         table: *const u8,
@@ -12,6 +12,8 @@ extern "C" {
         steps_length: usize,
         answers: *mut u8,
         answers_room: usize,
+        train: *mut u8,
+        place: *mut u8,
     ) -> u8;
 
     pub fn lineengine_print(
@@ -26,5 +28,12 @@ extern "C" {
         text_length: *mut usize,
     ) -> u8;
 
-    pub fn lineengine_write_back(table: *const u8, table_length: usize, buffer: *mut u8, buffer_room: usize) -> u8;
+    pub fn lineengine_write_back(
+        table: *const u8,
+        table_length: usize,
+        buffer: *mut u8,
+        buffer_room: usize,
+        train: *mut u8,
+        place: *mut u8,
+    ) -> u8;
 }

@@ -1,12 +1,13 @@
 //! The library's functions on one case, each by its raw form and by the wrapper, with buffers that are empty, one byte too short,
-//! exact and larger; whole buffers and what stands beside them are compared. What is empty is passed to the raw form as a null
-//! pointer.
+//! exact and larger; codes, train and place, whole buffers and what stands beside them are compared. What is empty is passed to
+//! the raw form as a null pointer. Where it sets train and place, other numbers stand before.
 
 use crate::counts::{Counts, Function};
 use crate::expected;
-use crate::lent::{pointer, Lent};
-use lineengine::{raw, Buffer, Refusal};
+use crate::lent::{pointer, Lent, Place};
+use lineengine::{raw, Buffer, RoutePlace};
 use reference::generate::prng::Prng;
+use reference::refusal::Refusal;
 
 /// What stands where the length of a text goes, before a call.
 const LENGTH_BEFORE: usize = 99;
@@ -15,7 +16,7 @@ const LENGTH_BEFORE: usize = 99;
 pub struct Case<'a> {
     pub file: &'a [u8],
     pub steps: &'a [u8],
-    pub codes: Result<Vec<u8>, u8>,
+    pub codes: Result<Vec<u8>, Refusal>,
 }
 
 impl<'a> Case<'a> {
@@ -26,7 +27,7 @@ impl<'a> Case<'a> {
     /// Compares all four functions.
     pub fn compare(&self, rng: &mut Prng, counts: &mut Counts) {
         counts.case(&self.codes, self.steps);
-        self.check(counts);
+        self.check(rng, counts);
         for room in rooms(rng, self.steps.len().div_ceil(3)).into_iter().chain([0]) {
             self.run(rng, counts, room);
         }
@@ -43,33 +44,52 @@ impl<'a> Case<'a> {
         }
     }
 
-    fn check(&self, counts: &mut Counts) {
-        let code = expected::file_code(self.file);
-        // SAFETY: the pointer and the length are those of a slice; the pointer is not used where that is empty.
-        let given = unsafe { raw::lineengine_check(pointer(self.file), self.file.len()) };
-        counts.nulls(&[self.file.len()]);
-        counts.call(Function::Check, given, given == code, || format!("{given} for {code}: {:?}", self.file));
-        let given = lineengine::check(self.file);
-        counts.call(Function::Check, number(&given), given == outcome(code, (), None), || format!("{given:?} for {code}"));
+    fn check(&self, rng: &mut Prng, counts: &mut Counts) {
+        let (file, expected) = (self.file, expected::check(self.file));
+        let mut at = Place::unlike(rng, expected);
+        // SAFETY: the pointer and the length are those of a slice; the pointer is not used where that is empty. What is written
+        // overlaps nothing.
+        let code = unsafe { raw::lineengine_check(pointer(file), file.len(), at.train.pointer(), at.place.pointer()) };
+        counts.nulls(&[file.len()]);
+        let given = at.with(code);
+        let same = given == expected && at.kept();
+        counts.call(Function::Check, code, same, || format!("{given:?} for {expected:?}: {file:?}"));
+        let given = lineengine::check(file);
+        let same = given == outcome(expected, (), None);
+        counts.call(Function::Check, number(&given), same, || format!("the wrapper, {given:?} for {expected:?}: {file:?}"));
     }
 
     fn run(&self, rng: &mut Prng, counts: &mut Counts, room: usize) {
         let (mut by_c, mut by_rust) = (Lent::new(rng, room), Lent::new(rng, room));
         let (file, steps) = (self.file, self.steps);
-        let (code, after) = expected::run(&self.codes, by_c.content());
+        let (expected, after) = expected::run(&self.codes, by_c.content());
+        let mut at = Place::unlike(rng, expected);
         // SAFETY: pointers and lengths are those of slices, none is used where that is empty; what is written overlaps nothing.
-        let given =
-            unsafe { raw::lineengine_run(pointer(file), file.len(), pointer(steps), steps.len(), by_c.pointer(), room) };
+        let code = unsafe {
+            raw::lineengine_run(
+                pointer(file),
+                file.len(),
+                pointer(steps),
+                steps.len(),
+                by_c.pointer(),
+                room,
+                at.train.pointer(),
+                at.place.pointer(),
+            )
+        };
         counts.nulls(&[file.len(), steps.len(), room]);
-        let same = given == code && by_c.content() == after && by_c.kept();
-        counts.call(Function::Run, given, same, || format!("{given} for {code}: {file:?}, {steps:?}, room {room}"));
-        let (code, after) = expected::run(&self.codes, by_rust.content());
+        let given = at.with(code);
+        let same = given == expected && by_c.content() == after && by_c.kept() && at.kept();
+        counts.call(Function::Run, code, same, || format!("{given:?} for {expected:?}: {file:?}, {steps:?}, room {room}"));
+        let (expected, after) = expected::run(&self.codes, by_rust.content());
         let needed = steps.len().div_ceil(3);
-        let wanted = outcome(code, &after[..needed.min(room)], Some((Buffer::Answers, needed, room)));
+        let wanted = outcome(expected, &after[..needed.min(room)], Some((Buffer::Answers, needed, room)));
         let given = lineengine::run(file, steps, by_rust.part());
         let (number, same) = (number(&given), given == wanted);
         let same = same && by_rust.content() == after && by_rust.kept();
-        counts.call(Function::Run, number, same, || format!("the wrapper, for {code}: {file:?}, {steps:?}, room {room}"));
+        counts.call(Function::Run, number, same, || {
+            format!("the wrapper, for {expected:?}: {file:?}, {steps:?}, room {room}")
+        });
     }
 
     fn print(&self, rng: &mut Prng, counts: &mut Counts, answers_room: usize, text_room: usize) {
@@ -102,7 +122,7 @@ impl<'a> Case<'a> {
             true => (Buffer::Answers, needed, answers_room),
             false => (Buffer::Text, 18 * (needed + 113), text_room),
         };
-        let wanted = outcome(code, &text_after[..size.unwrap_or(0)], Some(short));
+        let wanted = outcome(Refusal::by(code), &text_after[..size.unwrap_or(0)], Some(short));
         let given = lineengine::print(file, input, answers.part(), text.part());
         let (number, same) = (number(&given), given == wanted && text.kept() && answers.kept());
         let same = same && text.content() == text_after && answers.content() == answers_after;
@@ -112,18 +132,30 @@ impl<'a> Case<'a> {
     fn write_back(&self, rng: &mut Prng, counts: &mut Counts, room: usize) {
         let (mut by_c, mut by_rust) = (Lent::new(rng, room), Lent::new(rng, room));
         let file = self.file;
-        let (code, after) = expected::write_back(file, by_c.content());
+        let (expected, after) = expected::write_back(file, by_c.content());
+        let mut at = Place::unlike(rng, expected);
         // SAFETY: pointers and lengths are those of slices, none is used where that is empty; what is written overlaps nothing.
-        let given = unsafe { raw::lineengine_write_back(pointer(file), file.len(), by_c.pointer(), room) };
+        let code = unsafe {
+            raw::lineengine_write_back(
+                pointer(file),
+                file.len(),
+                by_c.pointer(),
+                room,
+                at.train.pointer(),
+                at.place.pointer(),
+            )
+        };
         counts.nulls(&[file.len(), room]);
-        let same = given == code && by_c.content() == after && by_c.kept() && (code != 0 || after[..file.len()] == *file);
-        counts.call(Function::WriteBack, given, same, || format!("{given} for {code}: {file:?}, room {room}"));
-        let (code, after) = expected::write_back(file, by_rust.content());
-        let wanted = outcome(code, file, Some((Buffer::Table, file.len(), room)));
+        let given = at.with(code);
+        let same = given == expected && by_c.content() == after && by_c.kept() && at.kept();
+        let same = same && (code != 0 || after[..file.len()] == *file);
+        counts.call(Function::WriteBack, code, same, || format!("{given:?} for {expected:?}: {file:?}, room {room}"));
+        let (expected, after) = expected::write_back(file, by_rust.content());
+        let wanted = outcome(expected, file, Some((Buffer::Table, file.len(), room)));
         let given = lineengine::write_back(file, by_rust.part());
         let (number, same) = (number(&given), given == wanted);
         let same = same && by_rust.content() == after && by_rust.kept();
-        counts.call(Function::WriteBack, number, same, || format!("the wrapper, for {code}: {file:?}, room {room}"));
+        counts.call(Function::WriteBack, number, same, || format!("the wrapper, for {expected:?}: {file:?}, room {room}"));
     }
 }
 
@@ -132,15 +164,19 @@ fn rooms(rng: &mut Prng, needed: usize) -> [usize; 3] {
     [needed.saturating_sub(1), needed, needed + rng.between(1, 40)]
 }
 
-/// What the wrapper answers where the library's code is this one.
-fn outcome<T>(code: u8, result: T, short: Option<(Buffer, usize, usize)>) -> Result<T, Refusal> {
+/// What the wrapper answers where the library gives this.
+fn outcome<T>(given: Refusal, result: T, short: Option<(Buffer, usize, usize)>) -> Result<T, lineengine::Refusal> {
+    let Refusal { code, train, place } = given;
     match (code, short) {
         (0, _) => Ok(result),
-        (26, Some((buffer, needed, room))) => Err(Refusal::TooShort { buffer, needed, room }),
-        _ => Err(Refusal::Table(code)),
+        (26, Some((buffer, needed, room))) => Err(lineengine::Refusal::TooShort { buffer, needed, room }),
+        _ => {
+            let at = (train != 0).then_some(RoutePlace { train, place });
+            Err(lineengine::Refusal::Table { code, at })
+        }
     }
 }
 
-fn number<T>(given: &Result<T, Refusal>) -> u8 {
+fn number<T>(given: &Result<T, lineengine::Refusal>) -> u8 {
     given.as_ref().err().map_or(0, |refusal| refusal.code())
 }

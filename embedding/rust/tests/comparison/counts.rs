@@ -1,6 +1,7 @@
 //! What was compared, and how often it differed.
 
-use reference::counts::print_codes;
+use reference::counts::{print_codes, CODES};
+use reference::refusal::Refusal;
 
 /// How many differences are shown.
 const SHOWN: usize = 5;
@@ -10,8 +11,11 @@ pub struct Counts {
     /// Calls of check, run, print and write back, by the raw functions and by the wrapper.
     pub calls: [usize; 4],
     /// Codes of the files, and of the steps of runs with an accepted file, one for each case.
-    pub file_codes: [usize; 13],
-    pub step_codes: [usize; 28],
+    pub file_codes: [usize; CODES],
+    pub step_codes: [usize; CODES],
+    /// Files that are refused by a place on a route, and those whose train and place are different numbers.
+    pub by_place: usize,
+    pub by_unequal: usize,
     /// Calls that were answered 26.
     pub too_short: [usize; 4],
     /// Calls by the raw functions with a null pointer or several.
@@ -23,10 +27,14 @@ pub struct Counts {
 
 impl Counts {
     /// Counts a case.
-    pub fn case(&mut self, codes: &Result<Vec<u8>, u8>, steps: &[u8]) {
+    pub fn case(&mut self, codes: &Result<Vec<u8>, Refusal>, steps: &[u8]) {
         self.cases += 1;
         match codes {
-            Err(code) => self.file_codes[*code as usize] += 1,
+            Err(refusal) => {
+                self.file_codes[refusal.code as usize] += 1;
+                self.by_place += usize::from(refusal.place != 0);
+                self.by_unequal += usize::from(refusal.train != refusal.place);
+            }
             Ok(codes) => {
                 self.file_codes[0] += 1;
                 self.cut_short += usize::from(!steps.chunks_exact(3).remainder().is_empty());
@@ -60,6 +68,7 @@ impl Counts {
             println!("{name:9} {:7} {:12}", self.calls[function as usize], self.too_short[function as usize]);
         }
         println!("{} calls with a null pointer or several", self.with_null);
+        println!("{} files refused by a place on a route, {} where train and place differ", self.by_place, self.by_unequal);
         print_codes(&self.file_codes, &self.step_codes);
         println!("{} differences", self.differences);
     }

@@ -1,21 +1,23 @@
-//! What the second implementation gives, as the library's contracts say it: codes, and the whole of each lent buffer.
+//! What the second implementation gives, as the library's contracts say it: code, train and place, and the whole of each lent
+//! buffer.
 
 use reference::line::start_line;
 use reference::printout::{printout, MAX_STEPS};
+use reference::refusal::Refusal;
 use reference::step::step;
 use reference::table_read::read_table;
 use reference::table_write::write_table;
 
-/// A code and the buffer after the call.
-pub type Answer = (u8, Vec<u8>);
+/// Code, train and place, and the buffer after the call.
+pub type Answer = (Refusal, Vec<u8>);
 
-/// The code of a file.
-pub fn file_code(file: &[u8]) -> u8 {
-    read_table(file).err().unwrap_or(0)
+/// What is said of a file; of an accepted one code 0.
+pub fn check(file: &[u8]) -> Refusal {
+    read_table(file).err().unwrap_or(Refusal::by(0))
 }
 
-/// The codes of all steps, a last one cut short among them; or the file's code.
-pub fn step_codes(file: &[u8], steps: &[u8]) -> Result<Vec<u8>, u8> {
+/// The codes of all steps, a last one cut short among them; or the file's refusal.
+pub fn step_codes(file: &[u8], steps: &[u8]) -> Result<Vec<u8>, Refusal> {
     let mut line = start_line(&read_table(file)?);
     Ok(steps
         .chunks(3)
@@ -27,11 +29,11 @@ pub fn step_codes(file: &[u8], steps: &[u8]) -> Result<Vec<u8>, u8> {
 }
 
 /// A run whose codes are known.
-pub fn run(codes: &Result<Vec<u8>, u8>, answers: &[u8]) -> Answer {
+pub fn run(codes: &Result<Vec<u8>, Refusal>, answers: &[u8]) -> Answer {
     match codes {
-        Err(code) => (*code, answers.to_vec()),
-        Ok(codes) if answers.len() < codes.len() => (26, answers.to_vec()),
-        Ok(codes) => (0, over(codes, answers)),
+        Err(refusal) => (*refusal, answers.to_vec()),
+        Ok(codes) if answers.len() < codes.len() => (Refusal::by(26), answers.to_vec()),
+        Ok(codes) => (Refusal::by(0), over(codes, answers)),
     }
 }
 
@@ -51,8 +53,8 @@ pub fn print(file: &[u8], input: &[u8], answers: &[u8], text: &[u8]) -> (u8, Opt
 pub fn write_back(file: &[u8], buffer: &[u8]) -> Answer {
     let mut after = buffer.to_vec();
     match read_table(file).and_then(|table| write_table(&table, &mut after)) {
-        Ok(_) => (0, after),
-        Err(code) => (code, after),
+        Ok(_) => (Refusal::by(0), after),
+        Err(refusal) => (refusal, after),
     }
 }
 

@@ -1,6 +1,7 @@
 //! Memory that is lent to the library: a part of a larger one, whose margins are watched.
 
 use reference::generate::prng::Prng;
+use reference::refusal::Refusal;
 use std::ptr::{null, null_mut};
 
 const MARGIN: usize = 24;
@@ -53,5 +54,32 @@ impl Lent {
 
     fn outside(&self) -> Vec<u8> {
         [&self.bytes[..MARGIN], &self.bytes[MARGIN + self.room..]].concat()
+    }
+}
+
+/// The two bytes for train and place, which hold other numbers than the call is to set.
+pub struct Place {
+    pub train: Lent,
+    pub place: Lent,
+}
+
+impl Place {
+    pub fn unlike(rng: &mut Prng, expected: Refusal) -> Place {
+        let mut other = |byte: u8| {
+            let mut lent = Lent::new(rng, 1);
+            lent.part()[0] = byte.wrapping_add(rng.between(1, 255) as u8);
+            lent
+        };
+        Place { train: other(expected.train), place: other(expected.place) }
+    }
+
+    /// What a call has given: its code, and what it has set.
+    pub fn with(&self, code: u8) -> Refusal {
+        Refusal { code, train: self.train.content()[0], place: self.place.content()[0] }
+    }
+
+    /// Whether nothing was written beside the two bytes.
+    pub fn kept(&self) -> bool {
+        self.train.kept() && self.place.kept()
     }
 }

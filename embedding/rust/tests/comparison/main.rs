@@ -20,6 +20,8 @@ use reference::table_write::file_bytes;
 
 const S: &[u8] = include_bytes!("../../../../samples/s/net");
 const S_STEPS: &[u8] = include_bytes!("../../../../samples/s/steps");
+/// Where the segments of its two routes stand.
+const ROUTES_OF_S: [usize; 6] = [38, 39, 40, 43, 44, 45];
 /// Ways of damaging a file.
 const AIMS: u64 = 21;
 
@@ -27,6 +29,7 @@ fn main() {
     let (seed, tables) = (argument(1, 1), argument(2, 200));
     let mut counts = Counts::default();
     short_and_long_files(seed, &mut counts);
+    routes(seed, &mut counts);
     limits(seed, &mut counts);
     for case in 0..tables {
         table(seed, case, &mut counts);
@@ -67,6 +70,23 @@ fn short_and_long_files(seed: u64, counts: &mut Counts) {
         Case::new(&longer, S_STEPS).compare(&mut rng, counts);
     }
     Case::new(&vec![0xFF; 100_000], S_STEPS).compare(&mut rng, counts);
+}
+
+/// Table S with any two segments of its routes changed, each to every number from 0 to one above its segments.
+fn routes(seed: u64, counts: &mut Counts) {
+    let mut rng = Prng::for_case(seed, u64::MAX - 1);
+    for (first, second) in pairs(&ROUTES_OF_S) {
+        for (one, other) in (0..=5).flat_map(|one| (0..=5).map(move |other| (one, other))) {
+            let mut changed = S.to_vec();
+            (changed[first], changed[second]) = (one, other);
+            Case::new(&changed, S_STEPS).compare(&mut rng, counts);
+        }
+    }
+}
+
+/// Any two of them, in their order.
+fn pairs(places: &[usize]) -> impl Iterator<Item = (usize, usize)> + '_ {
+    places.iter().enumerate().flat_map(|(i, &first)| places[i + 1..].iter().map(move |&second| (first, second)))
 }
 
 /// Lists about as long as a printout takes, on table S and on a table of the largest size.

@@ -105,15 +105,16 @@ fn first_fault(
     ensures { λ x. ⌜ x ≡ routeFault n (trackIn (now (near .entry)) (now (far .entry))) (now (routes .entry)) train 0 r ⌝ }
 {
     let mut before: u8 = 0;
-    let mut place: u8 = 0;
-    while place < r {
-        place += 1;
+    let mut passed: u8 = 0;
+    while passed < r {
+        let place = passed + 1;
         let s = segment_at(routes, train, place as usize);
         let code = place_code(place, before, s, n, near, far);
         if code != 0 {
             return Refusal { code, train, place };
         }
         before = s;
+        passed = place;
     }
     without_place(0)
 }
@@ -150,7 +151,8 @@ fn routes_fault(
     ensures { λ r. ⌜ r ≡ routesFault n k (trackIn (now (a .entry)) (now (b .entry))) trains (now (routes .entry)) ⌝ }
 {
     let mut number: u8 = 0;
-    while number < k {
+    // Train number + 1 is looked at, up to the last.
+    while number + 1 <= k {
         let i = number as usize;
         number += 1;
         let p = trains[i];

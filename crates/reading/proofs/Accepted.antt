@@ -2,13 +2,14 @@
 use Prim.Native.Nat.{ℕ, _≤_}
 use mathlib.Core.Path.{_≡_, sym, _∙_, ap}
 use mathlib.Core.List.{List}
-use borrow.Author.Tests.{eq-eqb, ne-eqb}
+use borrow.Author.Tests.{ne-eqb}
 use Rattle.rules.specs.declared.Table.{Table}
 use Rattle.rules.specs.declared.Line.{Line}
 use Rattle.rules.specs.declared.Refusal.{Refusal}
-use Rattle.rules.specs.Placing.{refusalBy}
+use Rattle.rules.specs.Placing.{withoutPlace, refusalBy}
 use Rattle.rules.specs.File.{fileCode, fileRefusal, decode}
 use Rattle.rules.specs.Line.{emptyLine, startLine, read}
+use Rattle.rules.proofs.RouteFault.{accepted-refusal}
 use Rattle.tablefile.specs.Whole.{Whole}
 
 module _ (bytes : List ℕ) where
@@ -25,6 +26,7 @@ module _ (bytes : List ℕ) where
     unfolding read
     read-refused n f = rw (e, ne-eqb (fileCode bytes) 0 (λ z. n (code-is ∙ z)), f)
 
-    pub read-accepted : (t : Table) → x .code ≡ 0 → t ≡ decode bytes → l ≡ startLine t → record { refusal = x; line = l } ≡ read bytes
-    unfolding read
-    read-accepted t z d f = rw (e, eq-eqb (fileCode bytes) 0 (sym code-is ∙ z), f, d)
+    pub read-accepted : (t : Table) (y : Refusal) → x .code ≡ 0 → t ≡ decode bytes → l ≡ startLine t → y ≡ withoutPlace 0
+        → record { refusal = y; line = l } ≡ read bytes
+    unfolding read fileRefusal
+    read-accepted t y z d f none = let code : fileCode bytes ≡ 0 = sym code-is ∙ z in rw (code, accepted-refusal, none, f, d)

@@ -46,7 +46,7 @@ pub fn read(bytes: &[u8]) -> FileOutcome
     let trains = start::trains(table.k, train_plans);
     let routes = table.routes;
     FileOutcome {
-        refusal,
+        refusal: placing::without_place(0),
         line: Line {
             table,
             boxes,

@@ -8,10 +8,10 @@ use Rattle.placing.proofs.first_fault.Statement.{statement}
 use Rattle.placing.proofs.first_fault.Tie as tie
 
 abbrev Inv-loop : tie.InvT-loop
-Inv-loop routes train r n near far before₀ place₀ before place = Searched n (trackIn near far) routes train 0 r before place
+Inv-loop routes train r n near far before₀ passed₀ before passed = Searched n (trackIn near far) routes train 0 r before passed
 
 abbrev μ-loop : tie.MeasureT-loop
-μ-loop routes train r n near far before₀ place₀ before place = r - place
+μ-loop routes train r n near far before₀ passed₀ before passed = r - passed
 
 pub first-fault-spec : {M : Type 1} → statement M
 first-fault-spec =

@@ -25,6 +25,7 @@ routes-fault-spec =
     (λ c. search needs)
     (λ c. search needs)
     (λ c. search needs)
+    (λ c. search needs)
     (λ c κs. search needs)
     (λ c. search routes-here)
     (λ c. search needs)

@@ -63,10 +63,12 @@ accepted c = c .before .before .before .before
 
 returns-3 : tie.Need-returns-3
 returns-3 c =
-    let made = c .before .before in
+    let trains = c .before .before in
+    let made = trains .before in
     let code = accepted (made .before) .before .before in
-    read-accepted _ _ _ (refusal-is code) _ (accepted (made .before) .if2 .left) (table-is (tabled code))
-    (start-line _ _ _ _ (track-is code) (made .boxes .ensures) (c .before .trains .ensures))
+    read-accepted _ _ _ (refusal-is code) _ _ (accepted (made .before) .if2 .left) (table-is (tabled code))
+    (start-line _ _ _ _ (track-is code) (made .boxes .ensures) (trains .trains .ensures))
+    (c .without-place2 .ensures)
 
 pub read-spec : {M : Type 1} → statement M
 read-spec =
@@ -84,4 +86,5 @@ read-spec =
     returns-2
     (λ c κs. table-counted (tabled (accepted c .before .before)))
     (λ c κs. table-counted (tabled (accepted (c .before) .before .before)) .1)
+    (λ c κs. search needs)
     returns-3)

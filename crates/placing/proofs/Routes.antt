@@ -99,23 +99,23 @@ module _ (n : ℕ) (track : Track) (routes : List ℕ) (i d r : ℕ) where
 
 -- The search through the routes of all trains: r is what a function answered for the route of the train with index i.
 module _ (n : ℕ) (track : Track) (trains : List TrainPlan) (routes : List ℕ) (k i : ℕ) (r : Refusal)
-    (yet : NoneFound k (routeFaultAt n track trains routes) i) (l : i + 1 ≤ k)
+    (yet : NoneFound k (routeFaultAt n track trains routes) i) (l : i < k)
     (e : r ≡ routeFault n track routes (i + 1) (getD trains i noTrainPlan .direction) (getD trains i noTrainPlan .length)) where
   route-answer : r ≡ routeFaultAt n track trains routes (i + 1)
   unfolding routeFaultAt
   route-answer = rw nth-at e
 
   pub routes-turn : r .code ≡ 0 → NoneFound k (routeFaultAt n track trains routes) (i + 1)
-  routes-turn z = found-turn k _ i yet (omega arith) (ap (λ (r : Refusal). r .code) (sym route-answer) ∙ z)
+  routes-turn z = found-turn k _ i yet l (ap (λ (r : Refusal). r .code) (sym route-answer) ∙ z)
 
   pub routes-here : r .code ≢ 0 → r ≡ routesFault n k track trains routes
   unfolding routesFault
-  routes-here z = route-answer ∙ found-here k _ i yet (omega arith) (λ y. z (ap (λ (r : Refusal). r .code) route-answer ∙ y))
+  routes-here z = route-answer ∙ found-here k _ i yet l (λ y. z (ap (λ (r : Refusal). r .code) route-answer ∙ y))
 
 pub routes-done : (n : ℕ) (track : Track) (trains : List TrainPlan) (routes : List ℕ) (k i : ℕ) (r : Refusal)
-    → NoneFound k (routeFaultAt n track trains routes) i → k < i + 1 → r ≡ withoutPlace 0 → r ≡ routesFault n k track trains routes
+    → NoneFound k (routeFaultAt n track trains routes) i → k ≤ i → r ≡ withoutPlace 0 → r ≡ routesFault n k track trains routes
 unfolding routesFault
-routes-done n track trains routes k i r yet l e = e ∙ found-done k _ i yet (omega arith)
+routes-done n track trains routes k i r yet l e = e ∙ found-done k _ i yet l
 
 -- Code 12 at the trains with indices i and j.
 module _ (routes : List ℕ) (i j : ℕ) where

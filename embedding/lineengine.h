@@ -14,7 +14,7 @@
  *
  * Every call that takes `train` and `place` sets both, refused or not, whatever stood there. With codes 11 and 28 they are the
  * train and the place on its route for which the table is refused, both counted from 1; docs/CODES.md says which byte of the table
- * that is. With every other code both are 0.
+ * that is. With every other code, LINEENGINE_ACCEPTED among them, both are 0.
  *
  * What the proofs assume of the caller, in the terms of C:
  *
@@ -109,7 +109,7 @@ enum lineengine_code {
 /*
  * The code of a table: 0, or the first of 1 to 12 and 28 that refuses it. 11 and 28 are one search, after 10 and before 12: train
  * by train, each route from its start, at one place 11 before 28.
- * NULL with length 0: `table` is a table of no bytes, code 1.
+ * NULL with length 0: `table` is a table of no bytes, code 1. `train` and `place` are never NULL.
  */
 uint8_t lineengine_check(const uint8_t *table, size_t table_length, uint8_t *train, uint8_t *place);
 
@@ -118,6 +118,7 @@ uint8_t lineengine_check(const uint8_t *table, size_t table_length, uint8_t *tra
  * each step, LINEENGINE_STEPS(steps_length). Bytes of `answers` beyond these stay as they were.
  * Answers the table's code, or 26 where `answers` is too short.
  * NULL with length 0: `table` is a table of no bytes, code 1; `steps` are no steps; `answers` is room enough for no steps alone.
+ * `train` and `place` are never NULL.
  */
 uint8_t lineengine_run(const uint8_t *table, size_t table_length,
                        const uint8_t *steps, size_t steps_length,
@@ -143,7 +144,8 @@ uint8_t lineengine_print(const uint8_t *table, size_t table_length,
 /*
  * Reads the table and writes it out again, to the front of `buffer`: the bytes that were read. `buffer` needs table_length bytes;
  * those beyond stay as they were. Answers the table's code, or 26 where the buffer is too short.
- * NULL with length 0: `table` is a table of no bytes, code 1; `buffer` is too short for every accepted table.
+ * NULL with length 0: `table` is a table of no bytes, code 1; `buffer` is too short for every accepted table. `train` and `place` are
+ * never NULL.
  */
 uint8_t lineengine_write_back(const uint8_t *table, size_t table_length,
                               uint8_t *buffer, size_t buffer_room,

@@ -93,11 +93,11 @@ fn put_routes(file: &[u8], k: u8) {
     put_route(file, last);
 }
 
-// A train's refusal and route.
+// A train's refusal and route. What stands in the lent places before the call must not be seen after it.
 fn put_route(file: &[u8], number: u8) {
-    let mut code: u8 = 0;
-    let mut train: u8 = 0;
-    let mut place: u8 = 0;
+    let mut code: u8 = 99;
+    let mut train: u8 = 99;
+    let mut place: u8 = 99;
     let route = tablefile::route(file, number, &mut code, &mut train, &mut place);
     put(b' ');
     put_refused(Refusal { code, train, place }, route);

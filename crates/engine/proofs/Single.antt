@@ -20,9 +20,10 @@ use Rattle.rules.specs.Rows.{first, outside, setNth}
 use Rattle.rules.specs.Track.{trackIn, pointIn}
 use Rattle.rules.specs.Line.{noTrain, around, putTrain, putBox}
 use Rattle.rules.specs.Steps.{Step, apply, formRows, step}
-use Rattle.rules.specs.Placing.{tableCode, refusalBy, partsRefusal, tableRefusal}
+use Rattle.rules.specs.Placing.{tableCode, partsRefusal}
 use Rattle.rules.specs.Record.{trainsFault, switchBoxesFault, recordFault, checkedStep}
 use Rattle.rules.proofs.Tests.{or-left, or-right}
+use Rattle.rules.proofs.Refusals.{code-of, table-coded}
 use Rattle.rules.proofs.Accepted.{Limits, accepted}
 use Rattle.rules.proofs.Steps.{form-row-iff, step-unformed, step-unknown}
 use Rattle.layout.proofs.Codes.{parts-answer}
@@ -61,8 +62,7 @@ refused-27 s e = rw e refl
 -- The code is the table's; where it is 0, the table is within its limits; and the check is its three parts.
 module _ {l : Line} {a b kinds : List ℕ} {r : Refusal} (h : Coded l a b kinds r) where
   coded-table : r .code ≡ tableCode (l .table)
-  unfolding tableRefusal partsRefusal refusalBy tableCode
-  coded-table = ap (λ (x : Refusal). x .code) (parts-answer (l .table) r (track-shown (h .columns) (h .segments)) (h .refusal))
+  coded-table = code-of (parts-answer (l .table) r (track-shown (h .columns) (h .segments)) (h .refusal)) ∙ table-coded (l .table)
 
   coded-limits : r .code ≡ 0 → Limits (l .table .n) (l .table .m) (l .table .k)
   coded-limits e = accepted (l .table) (sym coded-table ∙ e) .limits

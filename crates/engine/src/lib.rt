@@ -10,8 +10,8 @@ ghost use Rattle.rules.specs.Run.{run, answered, SafeRun};
 
 // Runs a table file and all its steps, three bytes each: reads the table, takes every step, and puts the codes into the lent
 // buffer. It is refused as the file is, then with 26 where the buffer is shorter than the answers; with any code but 0 the buffer is
-// as it was. A last step of one or two bytes is answered 13 and changes nothing. What a run leaves and answers is what calls of `step` one
-// after the other do, and demand 3 holds of it.
+// as it was. A last step of one or two bytes is answered 13 and changes nothing. What a run leaves and answers is what calls of `step`
+// one after the other do, and demand 3 holds of it.
 pub fn run(file: &[u8], steps: &[u8], answers: &mut [u8]) -> FileOutcome
     ensures { λ r. ⌜ r ≡ run checkedStep (now (file .entry)) (now (steps .entry)) (now (answers .entry)) ⌝ }
     ensures { λ r. ⌜ now (answers .exit) ≡ answered checkedStep (now (file .entry)) (now (steps .entry)) (now (answers .entry)) ⌝ }

@@ -1,6 +1,6 @@
 -- The codes of a table's head by the tests that lead to them, and rows of codes one after the other.
 use Prim.Native.Nat.{ℕ, _≤_, _<_}
-use mathlib.Core.Path.{_≡_, refl, sym, _∙_, ap}
+use mathlib.Core.Path.{_≡_, refl, sym, _∙_}
 use mathlib.Core.Bool.{true, false}
 use mathlib.Core.List.{List, _++_}
 use Rattle.rules.specs.declared.BoxPlan.{BoxPlan}
@@ -11,8 +11,8 @@ use Rattle.rules.specs.Rows.{first, outside}
 use Rattle.rules.specs.Track.{Track, trackOf}
 use Rattle.rules.specs.Network.{headRows, limitsFault, knownVersion, networkRows}
 use Rattle.rules.specs.Placing.{withoutPlace, routesFault, placingRows, partsCode, tellsPlace, refusalBy, partsRefusal, tableRefusal}
-use Rattle.rules.proofs.Tests.{tests, first-before, first-skip, first-zero-iff}
-use Rattle.rules.proofs.RouteFault.{refused-nowhere, none-placeless, row-placeless}
+use Rattle.rules.proofs.Tests.{tests, EachCode, first-before, first-skip, first-zero-iff}
+use Rattle.rules.proofs.Refusals.{placeless, refused-nowhere, refused-alike}
 
 module _ (version n m k : ℕ) where
   -- Codes 3 and 4, each by the tests before it, and none.
@@ -67,13 +67,12 @@ module _ (version n m k : ℕ) where
 
     -- The codes of head and network are about no place of a route.
     head-placeless : tellsPlace (first (headRows version n m k)) ≡ false
-    unfolding headRows tellsPlace
-    head-placeless = row-placeless 3 _ _ refl (row-placeless 4 _ _ refl none-placeless)
+    unfolding EachCode headRows tellsPlace
+    head-placeless = placeless (headRows version n m k) (refl, (refl, refl))
 
     network-placeless : tellsPlace (first (networkRows n m track plans)) ≡ false
-    unfolding networkRows tellsPlace
-    network-placeless =
-        row-placeless 6 _ _ refl (row-placeless 7 _ _ refl (row-placeless 8 _ _ refl (row-placeless 9 _ _ refl none-placeless)))
+    unfolding EachCode networkRows tellsPlace
+    network-placeless = placeless (networkRows n m track plans) (refl, (refl, (refl, (refl, refl))))
 
     -- What refuses the head, the network or the trains refuses the table, where the codes before it are 0; x is what a function
     -- answered.
@@ -90,8 +89,7 @@ module _ (version n m k : ℕ) where
         pub placing-refuses : c ≡ 0 → x ≡ refusalBy (first (placingRows n k track trains routes)) (routesFault n k track trains routes) → x ≡ partsRefusal version n m k track plans trains routes
         unfolding partsRefusal
         placing-refuses y is =
-            let code = sym (network-clear (sym f ∙ y)) ∙ sym (head-clear (sym e ∙ z)) in
-            is ∙ ap (λ (c : ℕ). refusalBy c (routesFault n k track trains routes)) code
+            refused-alike _ _ x _ is (sym (network-clear (sym f ∙ y)) ∙ sym (head-clear (sym e ∙ z)))
 
 -- What a function answered for the parts of a table, r, is why the table is refused.
 pub parts-answer : (t : Table) (r : Refusal) {track : Track} → track ≡ trackOf t

@@ -1,6 +1,7 @@
 // The line engine for units programmed in C or Rust: functions on numbers and lent bytes, in a static library. Each takes any
 // bytes, keeps nothing between calls and asks nothing of its caller but what the language asks of references. The header for C
 // is embedding/lineengine.h.
+use rules::Refusal;
 ghost use mathlib.Core.Path.{_≡_};
 ghost use Rattle.rules.specs.File.{fileRefusal};
 ghost use Rattle.rules.specs.Record.{checkedStep};
@@ -24,9 +25,9 @@ pub extern "C" fn lineengine_check(table: &[u8], train: &mut u8, place: &mut u8)
     checked.refusal.code
 }
 
-// Runs a table file and all its steps, three bytes each, and puts the code of each step into the lent buffer. The code, train and
-// place are the file's, then the code is 26 where the buffer is shorter than the answers; with any code but 0 the buffer is as it
-// was. Demand 3 holds of what was answered and of the line to which the steps led.
+// Runs a table file and all its steps, three bytes each, and puts the code of each step into the lent buffer. Code, train and place are
+// the file's; then 26, 0 and 0 where the buffer is shorter than the answers. With any code but 0 the buffer is as it was. Demand 3 holds
+// of what was answered and of the line to which the steps led.
 #[no_mangle]
 pub extern "C" fn lineengine_run(
     table: &[u8],
@@ -72,8 +73,22 @@ pub extern "C" fn lineengine_print(
     0
 }
 
-// Reads a table file and writes its table to the front of the lent buffer: the bytes of the file. The code, train and place are the
-// file's, then the code is 26 where the buffer is shorter than the file; with any code but 0 the buffer is as it was.
+// Reads a table file and writes its table to the front of the lent buffer.
+fn written_back(table: &[u8], buffer: &mut [u8]) -> Refusal
+    ensures { λ r. ⌜ r ≡ writeBackRefusal (now (table .entry)) (now (buffer .entry)) ⌝ }
+    ensures { λ r. ⌜ now (buffer .exit) ≡ writtenBack (now (table .entry)) (now (buffer .entry)) ⌝ }
+{
+    let file = tablefile::read_table(table);
+    let refusal = file.refusal;
+    if refusal.code != 0 {
+        return refusal;
+    }
+    let record = file.table;
+    writing::write(record, buffer)
+}
+
+// Reads a table file and writes its table to the front of the lent buffer: the bytes of the file. Code, train and place are the file's;
+// then 26, 0 and 0 where the buffer is shorter than the file. With any code but 0 the buffer is as it was.
 #[no_mangle]
 pub extern "C" fn lineengine_write_back(
     table: &[u8],
@@ -86,15 +101,7 @@ pub extern "C" fn lineengine_write_back(
     ensures { λ r. ⌜ now (place .exit) ≡ writeBackRefusal (now (table .entry)) (now (buffer .entry)) .place ⌝ }
     ensures { λ r. ⌜ now (buffer .exit) ≡ writtenBack (now (table .entry)) (now (buffer .entry)) ⌝ }
 {
-    let file = tablefile::read_table(table);
-    let refusal = file.refusal;
-    if refusal.code != 0 {
-        *train = refusal.train;
-        *place = refusal.place;
-        return refusal.code;
-    }
-    let record = file.table;
-    let wrote = writing::write(record, buffer);
+    let wrote = written_back(table, buffer);
     *train = wrote.train;
     *place = wrote.place;
     wrote.code

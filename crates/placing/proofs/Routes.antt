@@ -11,12 +11,13 @@ use lib.Dec.{eqb, ltb}
 use lib.ListN.{length, getD, List·getD-eq-default}
 use Rattle.rules.proofs.Tests.{tests, answered, cond-same}
 use Rattle.rules.proofs.Rows.{none-found, nth-at, nth-past, route-before, route-first}
-use Rattle.rules.proofs.RouteFault.{NoneFound, found-start, found-turn, found-here, found-done, first-same, refused-nowhere, refused-there, found-tells}
+use Rattle.rules.proofs.RouteFault.{NoneFound, found-start, found-turn, found-here, found-done, first-same, found-tells}
+use Rattle.rules.proofs.Refusals.{code-of, refused-nowhere, refused-there}
 use Rattle.rules.specs.declared.TrainPlan.{TrainPlan}
 use Rattle.rules.specs.declared.Refusal.{Refusal}
 use Rattle.rules.specs.Rows.{outside, anyOf, first}
 use Rattle.rules.specs.Track.{noTrainPlan, routeAt, Track, nearBox, farBox, follows}
-use Rattle.rules.specs.Placing.{withoutPlace, routeShapeFault, placeRows, routePlaceCode, routeFault, startFault, shapeFaultAt, routeFaultAt, routesFault, placingRows, tellsPlace, refusalBy}
+use Rattle.rules.specs.Placing.{withoutPlace, routeShapeFault, placeRows, routePlaceFault, routeFault, startFault, shapeFaultAt, routeFaultAt, routesFault, placingRows, tellsPlace, refusalBy}
 
 -- What code 10 says of the train with index i; r is what a function answered for it, and v what a branch found.
 pub shape-answer : (trains : List TrainPlan) (i : ℕ) (r v : Bool)
@@ -53,11 +54,8 @@ train-past routes (suc i) (suc p) e h =
     rw none (sym (cond-same (ltb p 64) 0))
 
 -- The search along a route has found nothing at its first p places, and has the segment at the last of them in hand.
-abbrev pub routePlace : ℕ → Track → List ℕ → ℕ → ℕ → ℕ → Refusal
-routePlace n track routes i d p = record { code = routePlaceCode n track routes i d p; train = i; place = p }
-
 pub record Searched (n : ℕ) (track : Track) (routes : List ℕ) (i d r before p : ℕ) : Type 0 where
-  pub yet : NoneFound r (routePlace n track routes i d) p
+  pub yet : NoneFound r (routePlaceFault n track routes i d) p
   pub last : before ≡ routeAt routes i p
 
 module _ (n : ℕ) (track : Track) (routes : List ℕ) (i d r : ℕ) where
@@ -66,16 +64,16 @@ module _ (n : ℕ) (track : Track) (routes : List ℕ) (i d r : ℕ) where
 
   module _ (before p s code : ℕ) (h : Searched n track routes i d r before p) (l : p < r) (here : s ≡ routeAt routes i (p + 1))
       (e : code ≡ first (placeRows n track d (p + 1) before s)) where
-    place-code : code ≡ routePlaceCode n track routes i d (p + 1)
-    unfolding routePlaceCode
-    place-code = let back : p + 1 - 1 ≡ p = omega arith in rw (back, ← h .last, ← here) e
+    place-is : record { code = code; train = i; place = p + 1 } ≡ routePlaceFault n track routes i d (p + 1)
+    unfolding routePlaceFault
+    place-is = let back : p + 1 - 1 ≡ p = omega arith in rw (back, ← h .last, ← here, e)
 
     pub searched-turn : code ≡ 0 → Searched n track routes i d r s (p + 1)
-    searched-turn z = record { yet = found-turn r _ p (h .yet) l (sym place-code ∙ z); last = here }
+    searched-turn z = record { yet = found-turn r _ p (h .yet) l (sym (code-of place-is) ∙ z); last = here }
 
     pub searched-here : code ≢ 0 → record { code = code; train = i; place = p + 1 } ≡ routeFault n track routes i d r
     unfolding routeFault
-    searched-here z = rw place-code (found-here r _ p (h .yet) l (λ y. z (place-code ∙ y)))
+    searched-here z = place-is ∙ found-here r _ p (h .yet) l (λ y. z (code-of place-is ∙ y))
 
   pub searched-done : (before p : ℕ) (x : Refusal) → Searched n track routes i d r before p → r ≤ p → x ≡ withoutPlace 0 → x ≡ routeFault n track routes i d r
   unfolding routeFault
@@ -89,13 +87,13 @@ module _ (n : ℕ) (track : Track) (routes : List ℕ) (i d r : ℕ) where
   pub route-forth : d ≡ 0 → routeFault n track routes i 0 r ≡ routeFault n track routes i d r
   route-forth e = rw e
 
-  place-back : (d ≡ 0 → ⊥) → (p : ℕ) → routePlaceCode n (turned track) routes i 0 p ≡ routePlaceCode n track routes i d p
-  unfolding routePlaceCode placeRows follows farBox nearBox
+  place-back : (d ≡ 0 → ⊥) → (p : ℕ) → routePlaceFault n (turned track) routes i 0 p ≡ routePlaceFault n track routes i d p
+  unfolding routePlaceFault placeRows follows farBox nearBox
   place-back e p = rw (ne-eqb d 0 e)
 
   pub route-back : (d ≡ 0 → ⊥) → routeFault n (turned track) routes i 0 r ≡ routeFault n track routes i d r
   unfolding routeFault
-  route-back e = first-same _ _ r λ p l h. rw (place-back e p)
+  route-back e = first-same _ _ r λ p l h. place-back e p
 
 -- The search through the routes of all trains: r is what a function answered for the route of the train with index i.
 module _ (n : ℕ) (track : Track) (trains : List TrainPlan) (routes : List ℕ) (k i : ℕ) (r : Refusal)
@@ -106,11 +104,11 @@ module _ (n : ℕ) (track : Track) (trains : List TrainPlan) (routes : List ℕ)
   route-answer = rw nth-at e
 
   pub routes-turn : r .code ≡ 0 → NoneFound k (routeFaultAt n track trains routes) (i + 1)
-  routes-turn z = found-turn k _ i yet l (ap (λ (r : Refusal). r .code) (sym route-answer) ∙ z)
+  routes-turn z = found-turn k _ i yet l (code-of (sym route-answer) ∙ z)
 
   pub routes-here : r .code ≢ 0 → r ≡ routesFault n k track trains routes
   unfolding routesFault
-  routes-here z = route-answer ∙ found-here k _ i yet l (λ y. z (ap (λ (r : Refusal). r .code) route-answer ∙ y))
+  routes-here z = route-answer ∙ found-here k _ i yet l (λ y. z (code-of route-answer ∙ y))
 
 pub routes-done : (n : ℕ) (track : Track) (trains : List TrainPlan) (routes : List ℕ) (k i : ℕ) (r : Refusal)
     → NoneFound k (routeFaultAt n track trains routes) i → k ≤ i → r ≡ withoutPlace 0 → r ≡ routesFault n k track trains routes
@@ -141,7 +139,7 @@ module _ (n k : ℕ) (track : Track) (trains : List TrainPlan) (routes : List �
 
   module _ (y : Refusal) (e : y ≡ routesFault n k track trains routes) (shape : anyOf k (shapeFaultAt trains) ≡ false) where
     found-code : y .code ≡ routesFault n k track trains routes .code
-    found-code = ap (λ (r : Refusal). r .code) e
+    found-code = code-of e
 
     pub refused-found : x ≡ y → y .code ≢ 0 → Refused
     unfolding placingRows

@@ -11,18 +11,17 @@ use lib.Dec.{ltb}
 use lib.ListN.{length, getD, take, drop, drop-of-length-le, List·getD-append}
 use lib.Seq.{take-all, length-take-le, drop-cons}
 use Rattle.rules.specs.declared.Line.{Line}
-use Rattle.rules.specs.declared.Refusal.{Refusal}
 use Rattle.rules.specs.declared.FileOutcome.{FileOutcome}
 use Rattle.rules.specs.Rows.{first, joinOf}
-use Rattle.rules.specs.Placing.{refusalBy}
 use Rattle.rules.specs.File.{fileCode, fileRefusal, decode}
 use Rattle.rules.specs.Line.{read, startLine}
 use Rattle.rules.specs.Steps.{step}
 use Rattle.rules.specs.Record.{checkedStep}
 use Rattle.rules.specs.History.{Call, lineAfter, events}
-use Rattle.rules.specs.Run.{wholeSteps, stepCount, answersOf, partialAnswer, answersFrom, runCode, runRefusal, run, answered, SafeRun}
+use Rattle.rules.specs.Run.{wholeSteps, stepCount, answersOf, partialAnswer, answersFrom, runRefusal, run, answered, SafeRun}
 use Rattle.rules.specs.Printout.{bytesOf, textLine, mostSteps, stepLine, stepLineOf, lineText, moreLine, takenOf, runText, fileLine, printoutUpTo, printout, textRoom, printCode, printLength, printedText, printedAnswers}
 use Rattle.rules.proofs.Rows.{join-same}
+use Rattle.rules.proofs.Refusals.{code-of, file-coded, accepted-refusal, then-refused, then-rows}
 use Rattle.rules.proofs.Files.{file-iff}
 use Rattle.rules.proofs.Runs.{answers-length}
 use Rattle.writing.proofs.Laws.{written-whole}
@@ -93,32 +92,30 @@ module _ (input answers text : List ℕ) where
 
 -- What is printed for a refused file, and for a run.
 file-text : (file input : List ℕ) → fileCode file ≢ 0 → printout file input ≡ fileLine (fileRefusal file)
-unfolding printout printoutUpTo read fileRefusal refusalBy
-file-text file input h = rw (ne-eqb (fileCode file) 0 h)
+unfolding printout printoutUpTo read
+file-text file input h = rw (file-coded, ne-eqb (fileCode file) 0 h)
 
 run-text : (file input answers : List ℕ) {l : Line} {a : List ℕ} → fileCode file ≡ 0 → SafeRun file (takenOf mostSteps input) l answers a
     → printout file input
     ≡ joinOf (stepCount (takenOf mostSteps input)) (stepLineOf (takenOf mostSteps input) a) ++ lineText l ++ cond (ltb (3 * mostSteps) (length input)) (textLine (bytesOf "more" ∷ [])) []
-unfolding printout printoutUpTo read fileRefusal refusalBy runText answersFrom
+unfolding printout printoutUpTo read runText answersFrom
 run-text file input answers {l} {a} e safe =
     let steps = takenOf mostSteps input in
     let start = startLine (decode file) in
-    rw (e, sym (more-line (3 * mostSteps) input), safe .line, safe .answers)
+    rw (file-coded, e, sym (more-line (3 * mostSteps) input), safe .line, safe .answers)
     (ap (λ (w : List ℕ). w ++ lineText (lineAfter step start (wholeSteps steps)) ++ moreLine (drop (3 * mostSteps) input))
     (step-lines-same steps (answersOf (events step start (wholeSteps steps)) ++ partialAnswer steps) (drop (stepCount steps) answers) (answers-length step start steps)))
 
 -- A run with room for its answers is refused as its file is, and the line of an accepted table is within its limits.
-run-file-code : (file steps buffer : List ℕ) → stepCount steps ≤ length buffer → runCode file steps buffer ≡ fileCode file
-unfolding runCode first
-run-file-code file steps buffer h =
-    elim (ℕ-discrete (fileCode file) 0) [
-      | yes e ↦ rw (e, le-ltb _ _ h)
-      | no e ↦ rw (ne-eqb (fileCode file) 0 e)
-    ]
-
 run-file-refusal : (call : Call) (file steps buffer : List ℕ) → stepCount steps ≤ length buffer → run call file steps buffer .refusal ≡ fileRefusal file
-unfolding run runRefusal fileRefusal
-run-file-refusal call file steps buffer h = rw (run-file-code file steps buffer h)
+unfolding run runRefusal first
+run-file-refusal call file steps buffer h =
+    elim (ℕ-discrete (fileRefusal file .code) 0) [
+      | yes e ↦
+          then-rows (fileRefusal file) _ e
+          ∙ rw (le-ltb _ _ h) (sym (accepted-refusal file (sym (file-coded file) ∙ e)))
+      | no e ↦ then-refused (fileRefusal file) _ e
+    ]
 
 pub run-refusal-is : (file input answers : List ℕ) {end : ℕ} {r : FileOutcome} → Taken input end → (end + 2) / 3 ≤ length answers
     → r ≡ run checkedStep file (take end input) answers → r .refusal ≡ fileRefusal file
@@ -127,8 +124,7 @@ run-refusal-is file input answers {end} t h e =
 
 pub run-code-is : (file input answers : List ℕ) {end : ℕ} {r : FileOutcome} → Taken input end → (end + 2) / 3 ≤ length answers
     → r ≡ run checkedStep file (take end input) answers → r .refusal .code ≡ fileCode file
-unfolding fileRefusal refusalBy
-run-code-is file input answers t h e = ap (λ (x : Refusal). x .code) (run-refusal-is file input answers t h e)
+run-code-is file input answers t h e = code-of (run-refusal-is file input answers t h e) ∙ file-coded file
 
 pub run-limits : {file steps buffer a : List ℕ} {l : Line} → fileCode file ≡ 0 → SafeRun file steps l buffer a → (l .table .k ≤ 16) × (l .table .m ≤ 96)
 run-limits {file} e safe =

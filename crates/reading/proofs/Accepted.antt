@@ -1,15 +1,15 @@
 -- The line that is read from a file, by the file's code and table.
 use Prim.Native.Nat.{ℕ, _≤_}
-use mathlib.Core.Path.{_≡_, sym, _∙_, ap}
+use mathlib.Core.Path.{_≡_, sym, _∙_}
 use mathlib.Core.List.{List}
 use borrow.Author.Tests.{ne-eqb}
 use Rattle.rules.specs.declared.Table.{Table}
 use Rattle.rules.specs.declared.Line.{Line}
 use Rattle.rules.specs.declared.Refusal.{Refusal}
-use Rattle.rules.specs.Placing.{withoutPlace, refusalBy}
+use Rattle.rules.specs.Placing.{withoutPlace}
 use Rattle.rules.specs.File.{fileCode, fileRefusal, decode}
 use Rattle.rules.specs.Line.{emptyLine, startLine, read}
-use Rattle.rules.proofs.RouteFault.{accepted-refusal}
+use Rattle.rules.proofs.Refusals.{code-of, file-coded, accepted-refusal}
 use Rattle.tablefile.specs.Whole.{Whole}
 
 module _ (bytes : List ℕ) where
@@ -19,8 +19,7 @@ module _ (bytes : List ℕ) where
 
   module _ (x : Refusal) (l : Line) (e : x ≡ fileRefusal bytes) where
     code-is : x .code ≡ fileCode bytes
-    unfolding fileRefusal refusalBy
-    code-is = ap (λ (r : Refusal). r .code) e
+    code-is = code-of e ∙ file-coded bytes
 
     pub read-refused : (x .code ≡ 0 → ⊥) → l ≡ emptyLine → record { refusal = x; line = l } ≡ read bytes
     unfolding read
@@ -28,5 +27,7 @@ module _ (bytes : List ℕ) where
 
     pub read-accepted : (t : Table) (y : Refusal) → x .code ≡ 0 → t ≡ decode bytes → l ≡ startLine t → y ≡ withoutPlace 0
         → record { refusal = y; line = l } ≡ read bytes
-    unfolding read fileRefusal
-    read-accepted t y z d f none = let code : fileCode bytes ≡ 0 = sym code-is ∙ z in rw (code, accepted-refusal, none, f, d)
+    unfolding read
+    read-accepted t y z d f none =
+        let code : fileCode bytes ≡ 0 = sym code-is ∙ z in
+        rw (code, accepted-refusal bytes code, none, f, d)

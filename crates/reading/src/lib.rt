@@ -8,7 +8,7 @@ use tablefile::head;
 ghost use mathlib.Core.Path.{_≡_};
 ghost use Rattle.rules.specs.Line.{read};
 
-// The reader: why a file is refused, by codes 1 to 12 and 28 in 01's order, and the line at its start or the empty record.
+// The reader: why a file is refused, by codes 1 to 12 and 28 in their order, and the line at its start or the empty record.
 pub fn read(bytes: &[u8]) -> FileOutcome
     ensures { λ r. ⌜ r ≡ read (now (bytes .entry)) ⌝ }
 {

@@ -14,7 +14,7 @@ use Rattle.rules.specs.Rows.{anyOf, nth, outside}
 use Rattle.rules.specs.Track.{noBoxPlan, planAt, trainPlanAt, routeAt, Track, trackOf, nearBox, farBox, follows, isPoint, positionFits}
 use Rattle.rules.specs.Loop.{SegmentOf, Loop}
 use Rattle.rules.specs.Network.{knownVersion, limitsFault, endsFault, placeFault, branchesFault, planFault, lists, hasEndA, hasEndB, listedFault, sideFault, boxFault, planFaultAt, boxFaultAt, unlistedFault, headRows, networkRows}
-use Rattle.rules.specs.Placing.{firstOf, routeShapeFault, placeRows, routePlaceCode, routeFault, startFault, shapeFaultAt, routeFaultAt, routesFault, placingRows, partsCode, tableCode}
+use Rattle.rules.specs.Placing.{firstOf, routeShapeFault, placeRows, routePlaceFault, routeFault, startFault, shapeFaultAt, routeFaultAt, routesFault, placingRows, partsCode, tableCode}
 use Rattle.rules.specs.Safety.{TrainOf, onRoute}
 use Rattle.rules.proofs.Tests.{facts, or-true-iff, eqb-true-iff, leb-true-iff, outside-false-iff, first-none, first-zero-iff, first-code-iff}
 use Rattle.rules.proofs.Rows.{any-false-iff, once}
@@ -73,7 +73,7 @@ pub record Sides (track : Track) (b : ℕ) (p : BoxPlan) : Type 0 where
   pub opposite
       : (y s : ℕ) → Branch p y s → s ≢ 0 → (d : ℕ) → nearBox track d (p .stem) ≡ b → nearBox track d s ≢ b
 
--- Codes 10 and 11 for train i's route, of direction d and length r, as it stands in routes: its shape, and each of its places
+-- Codes 10, 11 and 28 for train i's route, of direction d and length r, as it stands in routes: its shape, and each of its places
 -- is a segment that follows the one before.
 pub record Routed (n : ℕ) (track : Track) (routes : List ℕ) (i d r : ℕ) : Type 0 where
   pub direction : d ≤ 1
@@ -267,7 +267,7 @@ listing-iff track plans s = simp facts
 -- Codes 10, 11 and 28: the shape and the places of a route.
 pub routed-iff : (n : ℕ) (track : Track) (routes : List ℕ) (i d r : ℕ)
     → ((routeShapeFault d r ≡ false) × (routeFault n track routes i d r .code ≡ 0)) ↔ Routed n track routes i d r
-unfolding routeShapeFault routeFault routePlaceCode placeRows
+unfolding routeShapeFault routeFault routePlaceFault placeRows
 routed-iff n track routes i d r =
     simp (facts, first-of-zero-iff, first-zero-iff, first-none, outside-false-iff 64, segment-iff n) (
       λ ((direction, (low, high)), places).

@@ -18,8 +18,8 @@ use Rattle.rules.specs.File.{headSize, segmentSize, boxSize, trainSize, 
 use Rattle.rules.specs.Line.{emptyLine, read}
 use Rattle.rules.specs.Run.{stepCount}
 use Rattle.rules.specs.Printout.{mostSteps, takenOf, moreLine, runText, printoutUpTo, printout, mostFile, mostInput, AllBytes, Enough, textRoom, mostText, printCode, printLength, printedText}
-use Rattle.rules.proofs.Tests.{facts, outside-false-iff, first-before, first-none, first-zero-iff}
-use Rattle.rules.proofs.RouteFault.{without-place, row-placeless, none-placeless}
+use Rattle.rules.proofs.Tests.{facts, outside-false-iff, EachCode, first-before, first-none, first-zero-iff}
+use Rattle.rules.proofs.Refusals.{placeless, without-place}
 
 -- Of the bytes after the steps that are taken, the first decides whether the last line stands.
 more-enough : (n most : ℕ) (input : List ℕ) → n < most → moreLine (drop n (take most input)) ≡ moreLine (drop n input)
@@ -82,9 +82,8 @@ unfolding headCode
 long-refused bytes = some-row _ _ _
 
 long-placeless : (bytes : List ℕ) → tellsPlace (headCode bytes) ≡ false
-unfolding headCode tellsPlace
-long-placeless bytes =
-    row-placeless 2 _ _ refl (row-placeless 3 _ _ refl (row-placeless 4 _ _ refl (row-placeless 5 _ _ refl none-placeless)))
+unfolding EachCode headCode tellsPlace
+long-placeless bytes = placeless _ (refl, (refl, (refl, (refl, refl))))
 
 long-code : (bytes : List ℕ) → AllBytes bytes → mostFile ≤ length bytes → first (earlyRows bytes) ≡ headCode bytes
 unfolding earlyRows headRows headCode

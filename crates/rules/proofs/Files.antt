@@ -9,8 +9,9 @@ use lib.ListN.{length}
 use Rattle.rules.specs.declared.Table.{Table}
 use Rattle.rules.specs.Network.{headRows}
 use Rattle.rules.specs.Placing.{tableCode, partsCode}
-use Rattle.rules.specs.File.{earlyRows, headSize, marked, fileLength, decode, fileCode, encode, writeCode}
-use Rattle.rules.proofs.Tests.{facts, first-none, first-zero-iff, first-code-iff}
+use Rattle.rules.specs.File.{earlyRows, headSize, marked, fileLength, decode, fileCode, encode, writeRefusal}
+use Rattle.rules.proofs.Tests.{facts, first-none, first-zero-iff}
+use Rattle.rules.proofs.Refusals.{table-coded, then-zero-iff}
 use Rattle.rules.proofs.Accepted.{Accepted, accepted, accepted-code}
 
 -- What holds of an accepted file: codes 1, 2 and 5, and its table record is accepted.
@@ -37,6 +38,6 @@ file-iff bytes =
     )
 
 -- A table record is written where it has no fault and the buffer has room for it.
-pub write-iff : (t : Table) (buffer : List ℕ) → (writeCode t buffer ≡ 0) ↔ ((tableCode t ≡ 0) × (length (encode t) ≤ length buffer))
-unfolding writeCode
-write-iff t buffer = simp (facts, first-none, first-code-iff, first-zero-iff) (omega arith)
+pub write-iff : (t : Table) (buffer : List ℕ) → (writeRefusal t buffer .code ≡ 0) ↔ ((tableCode t ≡ 0) × (length (encode t) ≤ length buffer))
+unfolding writeRefusal
+write-iff t buffer = simp (facts, then-zero-iff, table-coded, first-none, first-zero-iff) (omega arith)

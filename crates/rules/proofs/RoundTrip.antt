@@ -7,9 +7,9 @@ use lib.ListN.{length, take, drop}
 use lib.Seq.{take-append-seam}
 use Rattle.rules.specs.declared.Table.{Table}
 use Rattle.rules.specs.Placing.{withoutPlace}
-use Rattle.rules.specs.File.{decode, fileCode, fileRefusal, encode, usedPart, writeCode, written}
+use Rattle.rules.specs.File.{decode, fileCode, encode, usedPart, writeRefusal, written}
 use Rattle.rules.specs.Line.{startLine, read}
-use Rattle.rules.proofs.RouteFault.{accepted-refusal}
+use Rattle.rules.proofs.Refusals.{accepted-refusal}
 use Rattle.rules.proofs.Accepted.{accepted-code}
 use Rattle.rules.proofs.Files.{file-iff, write-iff}
 use Rattle.rules.proofs.WriteBack.{written-back}
@@ -18,7 +18,7 @@ use Rattle.rules.proofs.ReadBack.{decode-encode, file-accepted}
 -- The writer accepts the table of a file that was read, if the buffer is as long as the file. It writes the file's bytes and
 -- leaves the rest of the buffer as it was.
 pub file-back : (bytes buffer : List ℕ) → fileCode bytes ≡ 0 → length bytes ≤ length buffer
-    → (writeCode (read bytes .line .table) buffer ≡ 0)
+    → (writeRefusal (read bytes .line .table) buffer .code ≡ 0)
     × (written (read bytes .line .table) buffer ≡ bytes ++ drop (length bytes) buffer)
 unfolding read startLine written
 file-back bytes buffer e h =
@@ -27,11 +27,12 @@ file-back bytes buffer e h =
     rw e (code, rw (code, back))
 
 -- The reader accepts the front of a written buffer and gives the start line of the table's used part.
-pub table-back : (t : Table) (buffer : List ℕ) → writeCode t buffer ≡ 0
+pub table-back : (t : Table) (buffer : List ℕ) → writeRefusal t buffer .code ≡ 0
     → read (take (length (encode t)) (written t buffer)) ≡ record { refusal = withoutPlace 0; line = startLine (usedPart t) }
-unfolding written read fileRefusal
+unfolding written read
 table-back t buffer e =
-    rw (e, take-append-seam, file-accepted t (write-iff t buffer .0 e .0), decode-encode, accepted-refusal)
+    let taken = file-accepted t (write-iff t buffer .0 e .0) in
+    rw (e, take-append-seam, taken, decode-encode, accepted-refusal (encode t) taken)
 
 -- A table that was read is all used part, so that it comes back whole.
 pub table-same : (bytes : List ℕ) → fileCode bytes ≡ 0 → usedPart (decode bytes) ≡ decode bytes

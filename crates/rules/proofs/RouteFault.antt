@@ -11,14 +11,15 @@ use borrow.Author.Tests.{eq-eqb, ne-eqb}
 use Rattle.rules.specs.declared.TrainPlan.{TrainPlan}
 use Rattle.rules.specs.declared.Table.{Table}
 use Rattle.rules.specs.declared.Refusal.{Refusal}
-use lib.Dec.{eqb, eqb·suc-zero}
+use lib.Dec.{eqb}
 use Rattle.rules.specs.Rows.{Row, _if_, first}
 use Rattle.rules.specs.Track.{trainPlanAt, Track, trackOf}
 use Rattle.rules.specs.Network.{headRows, networkRows}
-use Rattle.rules.specs.Placing.{withoutPlace, firstFrom, firstOf, placeRows, routePlaceCode, routeFault, routeFaultAt, routesFault, routesFaultIn, placingRows, partsCode, tableCode, partsRefusal, tableRefusal, tellsPlace, refusalBy}
+use Rattle.rules.specs.Placing.{withoutPlace, firstFrom, firstOf, placeRows, routePlaceFault, routeFault, routeFaultAt, routesFault, routesFaultIn, placingRows, partsCode, tableCode, partsRefusal, tableRefusal, tellsPlace, refusalBy}
 use Rattle.rules.specs.File.{earlyRows, decode, fileCode, fileRefusal}
 use Rattle.rules.specs.RouteFault.{RoutePlace, codeAt, RoutesFault}
-use Rattle.rules.proofs.Tests.{cond-each}
+use Rattle.rules.proofs.Tests.{EachCode, each-code}
+use Rattle.rules.proofs.Refusals.{code-of, with-place}
 
 -- What the search through f i, f (i + 1) and so on, n of them, ends in: none of them is a refusal; or f s is the first.
 pub data FirstIn (i n : ℕ) (f : ℕ → Refusal) (r : Refusal) : Type 0 where
@@ -56,14 +57,14 @@ pub first-of-zero-iff : (n : ℕ) (f : ℕ → Refusal) → (firstOf n f .code �
 first-of-zero-iff n f =
     elim (first-in-all f n) [
       | none z h ↦ (λ e s l g. h s l (omega arith), λ e. rw z)
-      | found s l g here c h ↦ (λ e. absurd (c (ap (λ (r : Refusal). r .code) here ∙ e)), λ e. absurd (c (e s l (omega arith))))
+      | found s l g here c h ↦ (λ e. absurd (c (code-of here ∙ e)), λ e. absurd (c (e s l (omega arith))))
     ]
 
 -- What holds of every refusal that is looked at holds of the one that is found.
 pub first-each : (P : Refusal → Type 0) (f : ℕ → Refusal) (n : ℕ) → ((s : ℕ) → f s .code ≢ 0 → P (f s)) → firstOf n f .code ≢ 0 → P (firstOf n f)
 first-each P f n h c =
     elim (first-in-all f n) [
-      | none z g ↦ absurd (c (ap (λ (r : Refusal). r .code) z))
+      | none z g ↦ absurd (c (code-of z))
       | found s l g here d e ↦ rw here at (h s d)
     ]
 
@@ -105,41 +106,6 @@ pub first-same : (f g : ℕ → Refusal) (n : ℕ) → ((s : ℕ) → 1 ≤ s �
 unfolding firstOf
 first-same f g n h = from-same f g n 1 (λ s l k. h s l (omega arith))
 
--- A code that is about no place of a route gives neither train nor place; one that is gives those that the search has found.
-pub without-place : (c : ℕ) (r : Refusal) → tellsPlace c ≡ false → refusalBy c r ≡ withoutPlace c
-unfolding refusalBy
-without-place c r e = rw e
-
-pub accepted-refusal : (r : Refusal) → refusalBy 0 r ≡ withoutPlace 0
-unfolding refusalBy tellsPlace
-accepted-refusal r = refl
-
-pub with-place : (r : Refusal) → tellsPlace (r .code) ≡ true → refusalBy (r .code) r ≡ r
-unfolding refusalBy
-with-place r e = rw e
-
--- The same for x, which a function answered.
-module _ (code : ℕ) (found x : Refusal) where
-  pub refused-nowhere : (c : ℕ) → x ≡ withoutPlace c → tellsPlace c ≡ false → c ≡ code → x ≡ refusalBy code found
-  refused-nowhere c e p is = e ∙ sym (without-place c found p) ∙ ap (λ (c : ℕ). refusalBy c found) is
-
-  pub refused-there : x ≡ found → tellsPlace (found .code) ≡ true → found .code ≡ code → x ≡ refusalBy code found
-  refused-there e p is = e ∙ sym (with-place found p) ∙ ap (λ (c : ℕ). refusalBy c found) is
-
--- The three numbers of a refusal, and what else is promised.
-pub numbers : {x y : Refusal} {Else : Type 0} → x ≡ y → Else → (x .code ≡ y .code) × ((x .train ≡ y .train) × ((x .place ≡ y .place) × Else))
-numbers e rest = (ap (λ (r : Refusal). r .code) e, (ap (λ (r : Refusal). r .train) e, (ap (λ (r : Refusal). r .place) e, rest)))
-
--- Rows whose codes are about no place, one row at a time.
-pub none-placeless : tellsPlace (first []) ≡ false
-unfolding tellsPlace first
-none-placeless = refl
-
-pub row-placeless : (c : ℕ) (b : Bool) (rows : List Row) → tellsPlace c ≡ false → tellsPlace (first rows) ≡ false
-    → tellsPlace (first (c if b ∷ rows)) ≡ false
-unfolding first
-row-placeless c b rows this rest = cond-each (λ c. tellsPlace c ≡ false) b c (first rows) (λ _. this) (λ _. rest)
-
 -- What the search through routes finds is told with its place.
 code-tells : (a b : Bool) → first (11 if a ∷ 28 if b ∷ []) ≢ 0 → tellsPlace (first (11 if a ∷ 28 if b ∷ [])) ≡ true
 unfolding first tellsPlace
@@ -149,50 +115,44 @@ code-tells false false h = absurd (h refl)
 
 pub found-tells : (n k : ℕ) (track : Track) (trains : List TrainPlan) (routes : List ℕ)
     → routesFault n k track trains routes .code ≢ 0 → tellsPlace (routesFault n k track trains routes .code) ≡ true
-unfolding routesFault routeFaultAt routeFault routePlaceCode placeRows
+unfolding routesFault routeFaultAt routeFault routePlaceFault placeRows
 found-tells n k track trains routes =
     first-each (λ r. tellsPlace (r .code) ≡ true) _ k λ i.
     first-each (λ r. tellsPlace (r .code) ≡ true) _ _ λ p. code-tells _ _
 
--- Where the code of a list of rows is about a place, it is that of the search: a row whose code is about none is passed over, and
--- the search's own row has its code, where only such rows follow.
-pass : (c : ℕ) (b : Bool) (rows : List Row) {found : ℕ} → tellsPlace c ≡ false → (tellsPlace (first rows) ≡ true → first rows ≡ found)
-    → tellsPlace (first (c if b ∷ rows)) ≡ true → first (c if b ∷ rows) ≡ found
-unfolding first
-pass c true rows e rest h = absurd (false≢true (sym e ∙ h))
-pass c false rows e rest h = rest h
+-- Of the codes in a table's rows that of the search alone is about a place.
+abbrev SearchAlone : ℕ → ℕ → Type 0
+SearchAlone searched c = tellsPlace c ≡ true → c ≡ searched
 
-search-row : (found : ℕ) (rows : List Row) → tellsPlace (first rows) ≡ false → tellsPlace (first (found if not (eqb found 0) ∷ rows)) ≡ true
-    → first (found if not (eqb found 0) ∷ rows) ≡ found
-unfolding first
-search-row zero rows e h = absurd (false≢true (sym e ∙ h))
-search-row (suc c) rows e h = rw (eqb·suc-zero c)
+other : {searched : ℕ} (c : ℕ) → tellsPlace c ≡ false → SearchAlone searched c
+other c e h = absurd (false≢true (sym e ∙ h))
 
-placing-told : (n k : ℕ) (track : Track) (trains : List TrainPlan) (routes : List ℕ)
-    → tellsPlace (first (placingRows n k track trains routes)) ≡ true
-    → first (placingRows n k track trains routes) ≡ routesFault n k track trains routes .code
-unfolding placingRows tellsPlace
-placing-told n k track trains routes =
-    pass 10 _ _ refl (search-row (routesFault n k track trains routes .code) _ (row-placeless 12 _ _ refl none-placeless))
+placing-alone : (n k : ℕ) (track : Track) (trains : List TrainPlan) (routes : List ℕ)
+    → EachCode (SearchAlone (routesFault n k track trains routes .code)) (placingRows n k track trains routes)
+unfolding EachCode placingRows tellsPlace
+placing-alone n k track trains routes = (other 10 refl, (λ _. refl, (other 12 refl, other 0 refl)))
 
 -- So what a table or a file with code 11 or 28 is refused by is what the search finds, its code too.
-told : (c : ℕ) (r : Refusal) → (tellsPlace c ≡ true → c ≡ r .code) → tellsPlace c ≡ true → refusalBy c r ≡ r
-told c r is h = rw (is h) (with-place r (rw (is h) at h))
+told : (r : Refusal) (rows : List Row) → EachCode (SearchAlone (r .code)) rows → tellsPlace (first rows) ≡ true
+    → refusalBy (first rows) r ≡ r
+told r rows alone h =
+    let is = each-code (SearchAlone (r .code)) rows alone h in
+    rw is (with-place r (rw is at h))
 
 pub table-told : (t : Table) → tellsPlace (tableCode t) ≡ true → tableRefusal t ≡ routesFaultIn t
-unfolding tableRefusal partsRefusal tableCode partsCode headRows networkRows tellsPlace
+unfolding EachCode tableRefusal partsRefusal tableCode partsCode headRows networkRows tellsPlace
 table-told t =
-    let placed = placing-told (t .n) (t .k) (trackOf t) (t .trains) (t .routes) in
-    told _ (routesFaultIn t)
-    (pass 3 _ _ refl (pass 4 _ _ refl (pass 6 _ _ refl (pass 7 _ _ refl (pass 8 _ _ refl (pass 9 _ _ refl placed))))))
+    let placed = placing-alone (t .n) (t .k) (trackOf t) (t .trains) (t .routes) in
+    told (routesFaultIn t) _
+    (other 3 refl, (other 4 refl, (other 6 refl, (other 7 refl, (other 8 refl, (other 9 refl, placed))))))
 
 pub file-told : (bytes : List ℕ) → tellsPlace (fileCode bytes) ≡ true → fileRefusal bytes ≡ routesFaultIn (decode bytes)
-unfolding fileRefusal fileCode earlyRows headRows networkRows tellsPlace
+unfolding EachCode fileRefusal fileCode earlyRows headRows networkRows tellsPlace
 file-told bytes =
     let t = decode bytes in
-    let placed = placing-told (t .n) (t .k) (trackOf t) (t .trains) (t .routes) in
-    told _ (routesFaultIn t)
-    (pass 1 _ _ refl (pass 2 _ _ refl (pass 3 _ _ refl (pass 4 _ _ refl (pass 5 _ _ refl (pass 6 _ _ refl (pass 7 _ _ refl (pass 8 _ _ refl (pass 9 _ _ refl placed)))))))))
+    let placed = placing-alone (t .n) (t .k) (trackOf t) (t .trains) (t .routes) in
+    told (routesFaultIn t) _
+    (other 1 refl, (other 2 refl, (other 3 refl, (other 4 refl, (other 5 refl, (other 6 refl, (other 7 refl, (other 8 refl, (other 9 refl, placed)))))))))
 
 -- The routes of a table: what the search finds on train i's route, and the places that it looks at.
 module _ (t : Table) where
@@ -200,26 +160,27 @@ module _ (t : Table) where
   onRouteOf i = routeFaultAt (t .n) (trackOf t) (t .trains) (t .routes) i
 
   abbrev placeOf : ℕ → ℕ → Refusal
-  placeOf i p = record { code = codeAt t i p; train = i; place = p }
+  placeOf i p = routePlaceFault (t .n) (trackOf t) (t .routes) i (trainPlanAt t i .direction) p
 
   on-route : (i : ℕ) → FirstIn 1 (trainPlanAt t i .length) (placeOf i) (onRouteOf i)
   unfolding routeFaultAt routeFault trainPlanAt
   on-route i = first-in-all (placeOf i) (trainPlanAt t i .length)
 
   -- A route on which the search finds nothing has no place at fault.
-  faultless : (i p : ℕ) → RoutePlace t i p → onRouteOf i .code ≡ 0 → codeAt t i p ≡ 0
-  faultless i p at e =
+  sound-places : (i p : ℕ) → RoutePlace t i p → onRouteOf i .code ≡ 0 → codeAt t i p ≡ 0
+  sound-places i p at e =
       elim (on-route i) [
         | none z h ↦ h p (at .placeLow) (omega arith)
-        | found s l g here c h ↦ absurd (c (ap (λ (r : Refusal). r .code) here ∙ e))
+        | found s l g here c h ↦ absurd (c (code-of here ∙ e))
       ]
 
   -- The first place at fault is that of the first route with one.
   first-place : (i : ℕ) (r : Refusal) → 1 ≤ i → i ≤ t .k → onRouteOf i ≡ r → onRouteOf i .code ≢ 0
       → ((j : ℕ) → 1 ≤ j → j < i → onRouteOf j .code ≡ 0) → RoutesFault t r
+  unfolding routePlaceFault
   first-place i r low high is fault earlier =
       elim (on-route i) [
-        | none z h ↦ absurd (fault (ap (λ (r : Refusal). r .code) z))
+        | none z h ↦ absurd (fault (code-of z))
         | found p l g here c h ↦
             let at : RoutePlace t i p = omega arith in
             let first : RoutesFault t (placeOf i p) =
@@ -230,7 +191,7 @@ module _ (t : Table) where
               fault = λ _. refl;
               before = λ j q there comes.
                   ⊎-elim
-                  (λ before. faultless j q there (earlier j (there .trainLow) before))
+                  (λ before. sound-places j q there (earlier j (there .trainLow) before))
                   (λ (same, before). rw same (h q (there .placeLow) before))
                   comes;
             } in
@@ -243,12 +204,12 @@ module _ (t : Table) where
       elim (first-in-all onRouteOf (t .k)) [
         | none z h ↦
             let nowhere : (i p : ℕ) → RoutePlace t i p → codeAt t i p ≡ 0 =
-            λ i p at. faultless i p at (h i (at .trainLow) (omega arith)) in
+            λ i p at. sound-places i p at (h i (at .trainLow) (omega arith)) in
             record {
-              none = (λ _. nowhere, λ _. ap (λ (r : Refusal). r .code) z);
+              none = (λ _. nowhere, λ _. code-of z);
               zeros = λ _. z;
-              place = λ fault. absurd (fault (ap (λ (r : Refusal). r .code) z));
-              fault = λ fault. absurd (fault (ap (λ (r : Refusal). r .code) z));
+              place = λ fault. absurd (fault (code-of z));
+              fault = λ fault. absurd (fault (code-of z));
               before = λ i p at _. nowhere i p at;
             }
         | found i l g here c h ↦ first-place i _ l (omega arith) here c h

@@ -1,6 +1,6 @@
 -- Steps in a list of bytes, their answers, and runs of a file and steps.
 use Prim.Native.Nat.{ℕ, suc, _+_, _*_, _/_, _%_, _≤_, _<_}
-use mathlib.Core.Path.{_≡_, refl, ap}
+use mathlib.Core.Path.{_≡_, refl, sym, _∙_, ap}
 use mathlib.Core.Bool.{Bool, true, false, cond}
 use mathlib.Core.List.{List, [], _∷_, append-assoc}
 use native.Mathlib.Omega.{arith}
@@ -9,14 +9,15 @@ use lib.ListN.{length, getD, drop, length-append, length-drop, take}
 use lib.Seq.{drop-cons}
 use borrow.Author.Tests.{eqb-true, eqb-false}
 use Rattle.rules.specs.declared.Line.{Line}
-use Rattle.rules.specs.File.{fileCode, decode}
+use Rattle.rules.specs.File.{fileCode, fileRefusal, decode}
 use Rattle.rules.specs.Line.{startLine, emptyLine}
 use Rattle.rules.specs.Steps.{Step, step}
 use Rattle.rules.specs.Record.{checkedStep}
 use Rattle.rules.specs.History.{Call, events}
 use Rattle.rules.specs.Safety.{StaysSound}
-use Rattle.rules.specs.Run.{wholeSteps, stepCount, answersOf, partialAnswer, answersFrom, runCode, runRefusal, run, answered, SafeRun}
-use Rattle.rules.proofs.Tests.{cond-alike, first-code-iff}
+use Rattle.rules.specs.Run.{wholeSteps, stepCount, answersOf, partialAnswer, answersFrom, runRefusal, run, answered, SafeRun}
+use Rattle.rules.proofs.Tests.{cond-alike}
+use Rattle.rules.proofs.Refusals.{file-coded, then-zero-iff}
 use Rattle.rules.proofs.Demand3.{demand-3}
 use Rattle.rules.proofs.Consequences.{consequences}
 
@@ -70,9 +71,9 @@ unfolding answersFrom
 answers-length call l bytes = rw (length-append, events-length, steps-length) (partial-length bytes)
 
 -- A run that is not refused is one of an accepted file.
-run-accepted : (file steps buffer : List ℕ) → runCode file steps buffer ≡ 0 → fileCode file ≡ 0
-unfolding runCode
-run-accepted file steps buffer e = first-code-iff (fileCode file) _ .0 e .0
+run-accepted : (file steps buffer : List ℕ) → runRefusal file steps buffer .code ≡ 0 → fileCode file ≡ 0
+unfolding runRefusal
+run-accepted file steps buffer e = sym (file-coded file) ∙ then-zero-iff (fileRefusal file) _ .0 e .0
 
 -- On the way from the start line of an accepted file the record check finds nothing.
 pub start-sound : (file : List ℕ) → fileCode file ≡ 0 → StaysSound (startLine (decode file))
@@ -84,7 +85,7 @@ module _ (file steps buffer : List ℕ) where
   unfolding run
   checked-run =
       let same =
-      cond-alike (eqb (runCode file steps buffer) 0) _ _ emptyLine λ e.
+      cond-alike (eqb (runRefusal file steps buffer .code) 0) _ _ emptyLine λ e.
       let accepted = run-accepted file steps buffer (eqb-true _ 0 e) in
       consequences file accepted (wholeSteps steps) .checkedLine in
       ap (λ (l : Line). record { refusal = runRefusal file steps buffer; line = l }) same
@@ -92,12 +93,12 @@ module _ (file steps buffer : List ℕ) where
   pub checked-answers : answered checkedStep file steps buffer ≡ answered step file steps buffer
   unfolding answered answersFrom
   checked-answers =
-      cond-alike (eqb (runCode file steps buffer) 0) _ _ _ λ e.
+      cond-alike (eqb (runRefusal file steps buffer .code) 0) _ _ _ λ e.
       let accepted = run-accepted file steps buffer (eqb-true _ 0 e) in
       rw (consequences file accepted (wholeSteps steps) .checkedEvents)
 
   -- Demand 3 holds of every run that is not refused.
-  pub safe-run : runCode file steps buffer ≡ 0
+  pub safe-run : runRefusal file steps buffer .code ≡ 0
       → SafeRun file steps (run checkedStep file steps buffer .line) buffer (answered checkedStep file steps buffer)
   unfolding run answered answersFrom
   safe-run e =

@@ -25,7 +25,7 @@ use Rattle.rules.specs.declared.Around.{Around}
 use Rattle.rules.specs.Line.{around, boxAt, trainAt, putTrain, requestKind, requestBox, messageBox}
 use Rattle.rules.specs.Steps.{Step, addressRows, apply, unless, send, reply, boxAnswers, trainHears, enter, clear, formed, formRows, stepRows, concernedBox, alone, effect, step, requestRows, boxRows, enterRows, clearRows, withMessage, withHolding, granted, heard, entered, sensed, cleared, released}
 use Rattle.rules.specs.Safety.{TrainOf}
-use Rattle.rules.proofs.Tests.{cond-each, first-other, first-none, outside-false-iff}
+use Rattle.rules.proofs.Tests.{cond-each, EachCode, each-code, outside-false-iff}
 use Rattle.rules.proofs.Steps.{formed-iff, step-row-iff}
 use Rattle.rules.proofs.Frames.{put, train-alone}
 
@@ -105,27 +105,24 @@ pub data Does (l : Line) (s : Step) : Outcome → Type 0 where
   clears : Clears l s → Does l s (record { code = 0; line = afterClear l (s .train) })
 
 -- Code 23 is a box's answer: no row of a train has it, nor row Step.
-no-code : first [] ≢ 23
-no-code = rw first-none (omega arith)
-
-row : (c : ℕ) (b : Bool) (rows : List Row) → c ≢ 23 → first rows ≢ 23 → first (c if b ∷ rows) ≢ 23
-row = first-other 23
+not-23 : (rows : List Row) → EachCode (λ c. c ≢ 23) rows → first rows ≢ 23
+not-23 = each-code (λ c. c ≢ 23)
 
 request-codes : (v : Around) (r : Train) (q : Request) → first (requestRows v r q) ≢ 23
-unfolding requestRows addressRows
-request-codes v r q = row 15 _ _ (omega arith) (row 16 _ _ (omega arith) (row 17 _ _ (omega arith) (row 18 _ _ (omega arith) no-code)))
+unfolding EachCode requestRows addressRows
+request-codes v r q = not-23 (requestRows v r q) (omega arith, (omega arith, (omega arith, (omega arith, omega arith))))
 
 enter-codes : (v : Around) (r : Train) → first (enterRows v r) ≢ 23
-unfolding enterRows
-enter-codes v r = row 20 _ _ (omega arith) (row 16 _ _ (omega arith) (row 19 _ _ (omega arith) no-code))
+unfolding EachCode enterRows
+enter-codes v r = not-23 (enterRows v r) (omega arith, (omega arith, (omega arith, omega arith)))
 
 clear-codes : (r : Train) → first (clearRows r) ≢ 23
-unfolding clearRows
-clear-codes r = row 20 _ _ (omega arith) no-code
+unfolding EachCode clearRows
+clear-codes r = not-23 (clearRows r) (omega arith, omega arith)
 
 step-codes : (k : ℕ) (s : Step) → first (stepRows k s) ≢ 23
-unfolding stepRows formRows
-step-codes k s = row 13 _ _ (omega arith) (row 14 _ _ (omega arith) no-code)
+unfolding EachCode stepRows formRows
+step-codes k s = not-23 (stepRows k s) (omega arith, (omega arith, omega arith))
 
 -- Of the kinds 3 to 6 the one that is left.
 fourth : (kind : ℕ) → 3 ≤ kind → kind ≤ 6 → kind ≢ 3 → kind ≢ 5 → kind ≢ 6 → kind ≡ 4

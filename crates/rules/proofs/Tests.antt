@@ -113,10 +113,15 @@ pub first-skip : (r : Row) (rows : List Row) (c : ℕ) → r .applies ≡ false 
 unfolding first
 first-skip r rows c e f = cond-second (r .applies) (r .code) (first rows) c e f
 
--- A code that no row has is not the code of the list.
-pub first-other : (n c : ℕ) (b : Bool) (rows : List Row) → c ≢ n → first rows ≢ n → first (c if b ∷ rows) ≢ n
-unfolding first
-first-other n c b rows this rest = cond-each (λ c. c ≢ n) b c (first rows) (λ _. this) (λ _. rest)
+-- P holds of the codes of all rows and of 0; so it holds of the code of the list.
+unfoldable pub EachCode : (ℕ → Type 0) → List Row → Type 0
+EachCode P [] = P 0
+EachCode P (r ∷ rows) = P (r .code) × EachCode P rows
+
+pub each-code : (P : ℕ → Type 0) (rows : List Row) → EachCode P rows → P (first rows)
+unfolding EachCode first
+each-code P [] h = h
+each-code P (r ∷ rows) (here, rest) = cond-each P (r .applies) (r .code) (first rows) (λ _. here) (λ _. each-code P rows rest)
 
 -- A row that applies counts whatever rows come after.
 kept : (x : Bool) (c : ℕ) {y z : ℕ} → (cond x c y ≡ 0 → ⊥) → ((y ≡ 0 → ⊥) → y ≡ z) → cond x c y ≡ cond x c z

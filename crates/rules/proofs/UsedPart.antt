@@ -15,7 +15,7 @@ use Rattle.rules.specs.Rows.{anyOf, nth, listOf, joinOf, filled}
 use Rattle.rules.specs.Track.{noSegment, noBoxPlan, noTrainPlan, segmentAt, planAt, trainPlanAt, routeAt, trackOf, trackBy, farBox, nearBox, follows}
 use Rattle.rules.specs.Loop.{hasLoop}
 use Rattle.rules.specs.Network.{endsFault, planFault, hasEndA, hasEndB, listedFault, sideFault, boxFault, planFaultAt, boxFaultAt, unlistedFault, headRows, networkRows}
-use Rattle.rules.specs.Placing.{firstOf, routeShapeFault, placeRows, routePlaceCode, routeFault, startFault, shapeFaultAt, routeFaultAt, routesFault, placingRows, partsCode, tableCode}
+use Rattle.rules.specs.Placing.{firstOf, routeShapeFault, placeRows, routePlaceFault, routeFault, startFault, shapeFaultAt, routeFaultAt, routesFault, placingRows, partsCode, tableCode}
 use Rattle.rules.specs.File.{usedPart}
 use Rattle.rules.proofs.Rows.{any-same, filled-length, filled-same, join-at, list-at, filled-nth}
 use Rattle.rules.proofs.Loop.{loop-same}
@@ -111,7 +111,7 @@ module _ (t u : Table) (same : SameUse t u) (ok : Accepted t) where
   route-same : (i : ℕ) → 1 ≤ i → i ≤ t .k
       → routeFault (u .n) (trackOf u) (u .routes) i (trainPlanAt u i .direction) (trainPlanAt u i .length)
       ≡ routeFault (t .n) (trackOf t) (t .routes) i (trainPlanAt t i .direction) (trainPlanAt t i .length)
-  unfolding routeFault routePlaceCode placeRows
+  unfolding routeFault routePlaceFault placeRows
   route-same i l h =
       rw (same .trains i h)
       (search-same refl λ p low high.

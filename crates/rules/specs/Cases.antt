@@ -149,7 +149,8 @@ found (atomicAnswersTo bytes steps) =
 found (atomicBoxAfter bytes steps b) = boxNumbers (boxAt (atomic (decode bytes) steps) b)
 found (routeOf bytes i) = refusalNumbers (routeRefusal bytes i) ++ (routeFrom bytes i ∷ routePart bytes i)
 
--- A question and the answer that 01 gives, as 02 changes it, or, for runs and the printout in lent memory, its reading in docs/DECISIONS.md.
+-- A question and the answer that 01 gives, as 02 changes it, or, for runs and the printout in lent memory, its reading in
+-- docs/DECISIONS.md.
 pub record Case : Type 0 where
   pub ask : Question
   pub expected : List ℕ

@@ -12,7 +12,7 @@ use Rattle.rules.specs.declared.Refusal.{Refusal}
 use Rattle.rules.specs.Rows.{Row, _if_, first, outside, listOf, joinOf, filled}
 use Rattle.rules.specs.Track.{noSegment, noBoxPlan, noTrainPlan, segmentAt, planAt, trainPlanAt, routeAt}
 use Rattle.rules.specs.Network.{headRows}
-use Rattle.rules.specs.Placing.{conditionRows, tableCode, refusalBy, routesFaultIn}
+use Rattle.rules.specs.Placing.{routesFaultIn, conditionRows, refusalBy, tableRefusal, refusedThen}
 
 -- The sizes of a file's parts, by its version: the head, a segment record, a box record, and a train record without its route.
 abbrev pub headSize : ℕ
@@ -128,19 +128,16 @@ fileCode bytes = first (earlyRows bytes ++ conditionRows (decode bytes))
 unfoldable pub fileRefusal : List ℕ → Refusal
 fileRefusal bytes = refusalBy (fileCode bytes) (routesFaultIn (decode bytes))
 
--- The route of train i as a part of the file: the file's code, then 14 for a train 0 or above k; with either the part is empty, at
--- the file's beginning.
-unfoldable pub routeCode : List ℕ → ℕ → ℕ
-routeCode bytes i = first (fileCode bytes if not (eqb (fileCode bytes) 0) ∷ 14 if outside (trainCount bytes) i ∷ [])
-
+-- The route of train i as a part of the file: refused as the file is, then with 14 for a train 0 or above k; the part is empty then,
+-- at the file's beginning.
 unfoldable pub routeRefusal : List ℕ → ℕ → Refusal
-routeRefusal bytes i = refusalBy (routeCode bytes i) (routesFaultIn (decode bytes))
+routeRefusal bytes i = refusedThen (fileRefusal bytes) (14 if outside (trainCount bytes) i ∷ [])
 
 unfoldable pub routePart : List ℕ → ℕ → List ℕ
-routePart bytes i = cond (eqb (routeCode bytes i) 0) (routeIn bytes i) []
+routePart bytes i = cond (eqb (routeRefusal bytes i .code) 0) (routeIn bytes i) []
 
 unfoldable pub routeFrom : List ℕ → ℕ → ℕ
-routeFrom bytes i = cond (eqb (routeCode bytes i) 0) (routeStart bytes i) 0
+routeFrom bytes i = cond (eqb (routeRefusal bytes i .code) 0) (routeStart bytes i) 0
 
 -- The bytes of a table record.
 unfoldable pub headBytes : Table → List ℕ
@@ -178,13 +175,9 @@ usedPart t =
       routes = filled 1024 0 (joinOf (t .k) (λ i. filled 64 0 (listOf (trainPlanAt t i .length) (routeAt (t .routes) i))));
     }
 
--- The writer: the table's code, then 26 where the lent buffer is shorter than the file; and the whole buffer after it.
-unfoldable pub writeCode : Table → List ℕ → ℕ
-writeCode t buffer =
-    first (tableCode t if not (eqb (tableCode t) 0) ∷ 26 if ltb (length buffer) (length (encode t)) ∷ [])
-
+-- The writer: refused as the table is, then with 26 where the lent buffer is shorter than the file; and the whole buffer after it.
 unfoldable pub writeRefusal : Table → List ℕ → Refusal
-writeRefusal t buffer = refusalBy (writeCode t buffer) (routesFaultIn t)
+writeRefusal t buffer = refusedThen (tableRefusal t) (26 if ltb (length buffer) (length (encode t)) ∷ [])
 
 unfoldable pub written : Table → List ℕ → List ℕ
-written t buffer = cond (eqb (writeCode t buffer) 0) (encode t ++ drop (length (encode t)) buffer) buffer
+written t buffer = cond (eqb (writeRefusal t buffer .code) 0) (encode t ++ drop (length (encode t)) buffer) buffer

@@ -33,14 +33,18 @@ firstOf n f = firstFrom 1 n f
 unfoldable pub placeRows : ℕ → Track → ℕ → ℕ → ℕ → ℕ → List Row
 placeRows n track d p before s = 11 if outside n s ∷ 28 if (ltb 1 p && not (follows track d before s)) ∷ []
 
--- The same at place p of train i's route.
-unfoldable pub routePlaceCode : ℕ → Track → List ℕ → ℕ → ℕ → ℕ → ℕ
-routePlaceCode n track routes i d p = first (placeRows n track d p (routeAt routes i (p - 1)) (routeAt routes i p))
+-- The same at place p of train i's route, with train and place.
+unfoldable pub routePlaceFault : ℕ → Track → List ℕ → ℕ → ℕ → ℕ → Refusal
+routePlaceFault n track routes i d p =
+    record {
+      code = first (placeRows n track d p (routeAt routes i (p - 1)) (routeAt routes i p));
+      train = i;
+      place = p;
+    }
 
 -- Codes 11 and 28 for train i's route, of direction d and length r, as it stands in routes: the first place at fault.
 unfoldable pub routeFault : ℕ → Track → List ℕ → ℕ → ℕ → ℕ → Refusal
-routeFault n track routes i d r =
-    firstOf r (λ p. record { code = routePlaceCode n track routes i d p; train = i; place = p })
+routeFault n track routes i d r = firstOf r (routePlaceFault n track routes i d)
 
 -- Code 12 at train i: a train before it has the same first segment.
 unfoldable pub startFault : List ℕ → ℕ → Bool
@@ -107,3 +111,7 @@ partsRefusal version n m k track plans trains routes =
 
 unfoldable pub tableRefusal : Table → Refusal
 tableRefusal t = partsRefusal (t .version) (t .n) (t .m) (t .k) (trackOf t) (t .boxes) (t .trains) (t .routes)
+
+-- Refused as r is or, where r is none, by the first of these rows that applies.
+unfoldable pub refusedThen : Refusal → List Row → Refusal
+refusedThen r rows = cond (eqb (r .code) 0) (withoutPlace (first rows)) r

@@ -102,7 +102,8 @@ recordCases =
     -- What the reader leaves: a line, or none.
     ∷ heardOn (read tableS .line) gives (21 ∷ [])
     ∷ heardOn (read (tableS ++ (0 ∷ [])) .line) gives (27 ∷ [])
-    -- The route as it stands: another that follows, ones that do not (at train 2's last place too), a direction above 1 or against it, lengths 0 and 65.
+    -- The route as it stands: another that follows, ones that do not (at train 2's last place too), a direction above 1 or against it,
+    -- lengths 0 and 65.
     ∷ heardOn (withRoutes (set (startS .routes) 1 3)) gives (21 ∷ [])
     ∷ heardOn (withRoutes (set (startS .routes) 1 4)) gives (27 ∷ [])
     ∷ heardOn (withRoutes (set (startS .routes) 66 2)) gives (27 ∷ [])

@@ -6,7 +6,7 @@ use mathlib.Core.Logic.{_⊎_, _↔_, _≢_}
 use Rattle.rules.specs.declared.Table.{Table}
 use Rattle.rules.specs.declared.Refusal.{Refusal}
 use Rattle.rules.specs.Track.{trainPlanAt, trackOf}
-use Rattle.rules.specs.Placing.{withoutPlace, routePlaceCode}
+use Rattle.rules.specs.Placing.{withoutPlace, routePlaceFault}
 
 -- Train i is one of the table's, and its route has a place p. (A route longer than 64 reads as segment 0 from place 65 on; code 10
 -- refuses it before.)
@@ -18,7 +18,7 @@ pub record RoutePlace (t : Table) (i p : ℕ) : Type 0 where
 
 -- Its code: 11, 28, or 0 where it is not at fault.
 abbrev pub codeAt : Table → ℕ → ℕ → ℕ
-codeAt t i p = routePlaceCode (t .n) (trackOf t) (t .routes) i (trainPlanAt t i .direction) p
+codeAt t i p = routePlaceFault (t .n) (trackOf t) (t .routes) i (trainPlanAt t i .direction) p .code
 
 -- Place p of train i's route comes before place q of train j's: on an earlier train's route, or earlier on the same one.
 abbrev pub Before : ℕ → ℕ → ℕ → ℕ → Type 0

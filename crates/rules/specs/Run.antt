@@ -1,16 +1,16 @@
 -- A run: the bytes of a table file, the bytes of steps, and a lent buffer for the answers.
 use Prim.Native.Nat.{ℕ, _+_, _/_, _%_}
 use mathlib.Core.Path.{_≡_}
-use mathlib.Core.Bool.{cond, not}
+use mathlib.Core.Bool.{cond}
 use mathlib.Core.List.{List, [], _∷_, _++_}
 use lib.Dec.{eqb, ltb}
 use lib.ListN.{length, take, drop}
 use Rattle.rules.specs.declared.Line.{Line}
 use Rattle.rules.specs.declared.Refusal.{Refusal}
 use Rattle.rules.specs.declared.FileOutcome.{FileOutcome}
-use Rattle.rules.specs.Rows.{_if_, first}
-use Rattle.rules.specs.Placing.{refusalBy, routesFaultIn}
-use Rattle.rules.specs.File.{fileCode, decode}
+use Rattle.rules.specs.Rows.{_if_}
+use Rattle.rules.specs.Placing.{refusedThen}
+use Rattle.rules.specs.File.{fileRefusal, decode}
 use Rattle.rules.specs.Line.{startLine, emptyLine}
 use Rattle.rules.specs.Steps.{Step}
 use Rattle.rules.specs.Record.{checkedStep}
@@ -41,26 +41,23 @@ partialAnswer bytes = cond (eqb (length bytes % 3) 0) [] (13 ∷ [])
 unfoldable pub answersFrom : Call → Line → List ℕ → List ℕ
 answersFrom call l bytes = answersOf (events call l (wholeSteps bytes)) ++ partialAnswer bytes
 
--- The code of a run: the file's, then 26 where the lent buffer is shorter than the answers; and why it is refused.
-unfoldable pub runCode : List ℕ → List ℕ → List ℕ → ℕ
-runCode file steps buffer =
-    first (fileCode file if not (eqb (fileCode file) 0) ∷ 26 if ltb (length buffer) (stepCount steps) ∷ [])
-
+-- Why a run is refused: as the file is, then with 26 where the lent buffer is shorter than the answers.
 unfoldable pub runRefusal : List ℕ → List ℕ → List ℕ → Refusal
-runRefusal file steps buffer = refusalBy (runCode file steps buffer) (routesFaultIn (decode file))
+runRefusal file steps buffer = refusedThen (fileRefusal file) (26 if ltb (length buffer) (stepCount steps) ∷ [])
 
 -- A run: the line after all steps or, where it is refused, the empty record; and the whole buffer after it, as it was where it is
 -- refused.
 unfoldable pub run : Call → List ℕ → List ℕ → List ℕ → FileOutcome
 run call file steps buffer =
+    let r = runRefusal file steps buffer in
     record {
-      refusal = runRefusal file steps buffer;
-      line = cond (eqb (runCode file steps buffer) 0) (lineAfter call (startLine (decode file)) (wholeSteps steps)) emptyLine;
+      refusal = r;
+      line = cond (eqb (r .code) 0) (lineAfter call (startLine (decode file)) (wholeSteps steps)) emptyLine;
     }
 
 unfoldable pub answered : Call → List ℕ → List ℕ → List ℕ → List ℕ
 answered call file steps buffer =
-    cond (eqb (runCode file steps buffer) 0)
+    cond (eqb (runRefusal file steps buffer .code) 0)
     (answersFrom call (startLine (decode file)) steps ++ drop (stepCount steps) buffer)
     buffer
 

@@ -1,6 +1,6 @@
 -- Codes 1 to 5 by the tests that lead to them, the file's codes after them, and what a file without them has.
 use Prim.Native.Nat.{ℕ, _≤_, _<_}
-use mathlib.Core.Path.{_≡_, refl, sym, _∙_, ap}
+use mathlib.Core.Path.{_≡_, refl, sym, _∙_}
 use mathlib.Core.Bool.{true, false, not}
 use mathlib.Core.List.{List, [], _∷_, _++_}
 use native.Mathlib.Omega.{arith}
@@ -9,10 +9,10 @@ use lib.Dec.{eqb}
 use lib.ListN.{length}
 use Rattle.rules.specs.Rows.{Row, _if_, first}
 use Rattle.rules.specs.Network.{headRows, limitsFault}
-use Rattle.rules.specs.Placing.{tableCode, partsCode, tellsPlace, refusalBy, routesFaultIn, partsRefusal, tableRefusal}
+use Rattle.rules.specs.Placing.{tableCode, partsCode, tellsPlace, partsRefusal, tableRefusal}
 use Rattle.rules.specs.File.{marked, versionIn, segmentCount, boxCount, trainCount, fileLength, fileCode, fileRefusal, decode, earlyRows}
-use Rattle.rules.proofs.RouteFault.{none-placeless, row-placeless}
-use Rattle.rules.proofs.Tests.{tests, facts, outside-false-iff, not-of-true, not-of-false, first-none, first-zero-iff, first-hit, first-skip, first-before}
+use Rattle.rules.proofs.Refusals.{placeless, refused-alike}
+use Rattle.rules.proofs.Tests.{tests, facts, EachCode, outside-false-iff, not-of-true, not-of-false, first-none, first-zero-iff, first-hit, first-skip, first-before}
 use Rattle.tablefile.specs.Whole.{earlyCode, Whole}
 
 -- The head's rows of a file.
@@ -65,9 +65,8 @@ module _ (bytes : List ℕ) where
 
   -- Codes 1 to 5 are about no place of a route.
   pub early-placeless : tellsPlace (earlyCode bytes) ≡ false
-  unfolding earlyCode earlyRows headRows tellsPlace
-  early-placeless =
-      row-placeless 1 _ _ refl (row-placeless 2 _ _ refl (row-placeless 3 _ _ refl (row-placeless 4 _ _ refl (row-placeless 5 _ _ refl none-placeless))))
+  unfolding EachCode earlyCode earlyRows headRows tellsPlace
+  early-placeless = placeless (earlyRows bytes) (refl, (refl, (refl, (refl, (refl, refl)))))
 
   file-late : earlyCode bytes ≡ 0 → tableCode (decode bytes) ≡ fileCode bytes
   unfolding fileCode tableCode partsCode decode earlyCode earlyRows headRows
@@ -78,7 +77,7 @@ module _ (bytes : List ℕ) where
 
   pub file-refused-late : earlyCode bytes ≡ 0 → tableRefusal (decode bytes) ≡ fileRefusal bytes
   unfolding fileRefusal tableRefusal partsRefusal tableCode
-  file-refused-late e = ap (λ (c : ℕ). refusalBy c (routesFaultIn (decode bytes))) (file-late e)
+  file-refused-late e = refused-alike _ _ _ _ refl (file-late e)
 
   pub whole : earlyCode bytes ≡ 0 → Whole bytes
   unfolding earlyCode earlyRows headRows limitsFault

@@ -1,8 +1,7 @@
 -- The table of a file, and the routes of its trains.
 use Prim.Native.Nat.{ℕ, _+_, _-_, _≤_, _<_}
 use mathlib.Core.Path.{_≡_, refl, sym, _∙_, ap}
-use mathlib.Core.Bool.{false}
-use mathlib.Core.List.{List, []}
+use mathlib.Core.List.{List, [], _∷_}
 use native.Mathlib.Decide.{ℕ-discrete}
 use native.Mathlib.Omega.{arith}
 use borrow.Author.Tests.{lt-ltb, le-ltb, eq-eqb, ne-eqb}
@@ -11,12 +10,12 @@ use lib.ListN.{length, getD, take, drop, length-drop}
 use lib.Seq.{getD-drop, drop-drop}
 use Rattle.rules.specs.declared.Table.{Table}
 use Rattle.rules.specs.declared.Refusal.{Refusal}
-use Rattle.rules.specs.Rows.{first, outside}
-use Rattle.rules.specs.Placing.{withoutPlace, routesFaultIn, tellsPlace, refusalBy, tableRefusal}
-use Rattle.rules.specs.File.{byteAt, trainCount, trainsFrom, trainStart, trainSize, fileCode, fileRefusal, decode, routeCode, routeRefusal, routePart, routeFrom}
+use Rattle.rules.specs.Rows.{_if_, first, outside}
+use Rattle.rules.specs.Placing.{withoutPlace, tableRefusal}
+use Rattle.rules.specs.File.{byteAt, trainCount, trainsFrom, trainStart, trainSize, fileCode, fileRefusal, decode, routeRefusal, routePart, routeFrom}
 use Rattle.rules.specs.Line.{emptyTable}
-use Rattle.rules.proofs.Tests.{or-right, outside-false-iff, first-zero-iff, first-code-iff}
-use Rattle.rules.proofs.RouteFault.{refused-nowhere}
+use Rattle.rules.proofs.Tests.{or-right, outside-false-iff, first-zero-iff}
+use Rattle.rules.proofs.Refusals.{code-of, file-coded, refused-nowhere, then-refused, then-rows, then-zero-iff}
 use Rattle.tablefile.specs.declared.FileTable.{FileTable}
 use Rattle.tablefile.specs.Whole.{earlyCode, Whole, tableIn, fileTable}
 use Rattle.tablefile.proofs.Parts.{route-in, train-room}
@@ -66,8 +65,7 @@ module _ (bytes : List ℕ) where
     file-refusal = ap (λ (x : FileTable). x .refusal) s
 
     pub file-code : d .refusal .code ≡ fileCode bytes
-    unfolding fileRefusal refusalBy
-    file-code = ap (λ (x : Refusal). x .code) file-refusal
+    file-code = code-of file-refusal ∙ file-coded bytes
 
     pub file-table : d .refusal .code ≡ 0 → d .table ≡ decode bytes
     unfolding fileTable
@@ -76,56 +74,50 @@ module _ (bytes : List ℕ) where
     -- Why train i's route is refused; x is what a function answered.
     module _ (i : ℕ) (x : Refusal) where
       pub route-refused : (d .refusal .code ≡ 0 → ⊥) → x ≡ d .refusal → x ≡ routeRefusal bytes i
-      unfolding fileRefusal routeRefusal routeCode first
-      route-refused n is =
-          let same : fileCode bytes ≡ routeCode bytes i = rw (ne-eqb (fileCode bytes) 0 (λ z. n (file-code ∙ z))) in
-          is ∙ file-refusal ∙ ap (λ (c : ℕ). refusalBy c (routesFaultIn (decode bytes))) same
+      unfolding routeRefusal
+      route-refused n is = is ∙ file-refusal ∙ sym (then-refused (fileRefusal bytes) _ (λ z. n (code-of file-refusal ∙ z)))
 
       module _ (z : d .refusal .code ≡ 0) where
         file-trains : d .table .k ≡ trainCount bytes
         unfolding decode
         file-trains = ap (λ (x : Table). x .k) (file-table z)
 
-        -- A code about no place.
-        route-coded : (c : ℕ) → tellsPlace c ≡ false → c ≡ routeCode bytes i → x ≡ withoutPlace c → x ≡ routeRefusal bytes i
+        -- Past the file's code the row of 14 decides.
+        route-row : x ≡ withoutPlace (first (14 if outside (trainCount bytes) i ∷ [])) → x ≡ routeRefusal bytes i
         unfolding routeRefusal
-        route-coded c p e is = refused-nowhere _ _ x c is p e
+        route-row is = is ∙ sym (then-rows (fileRefusal bytes) _ (code-of (sym file-refusal) ∙ z))
 
         pub route-none : i ≡ 0 → x ≡ withoutPlace 14 → x ≡ routeRefusal bytes i
-        unfolding routeCode first outside tellsPlace
-        route-none e = route-coded 14 refl (rw (sym file-code, eq-eqb _ _ z, eq-eqb _ _ e))
+        unfolding first outside
+        route-none e is = route-row (rw (eq-eqb _ _ e) is)
 
         pub route-above : d .table .k < i → x ≡ withoutPlace 14 → x ≡ routeRefusal bytes i
-        unfolding routeCode first outside tellsPlace
-        route-above l =
+        unfolding first outside
+        route-above l is =
             let h : trainCount bytes < i = omega (arith, file-trains) in
-            route-coded 14 refl (rw (sym file-code, eq-eqb _ _ z, or-right (eqb i 0) _ (lt-ltb _ _ h)))
+            route-row (rw (or-right (eqb i 0) _ (lt-ltb _ _ h)) is)
 
         pub route-within : (i ≡ 0 → ⊥) → i ≤ d .table .k → x ≡ withoutPlace 0 → x ≡ routeRefusal bytes i
-        unfolding routeCode first outside tellsPlace
-        route-within n l =
+        unfolding first outside
+        route-within n l is =
             let h : i ≤ trainCount bytes = omega (arith, file-trains) in
-            route-coded 0 refl (rw (sym file-code, eq-eqb _ _ z, ne-eqb _ _ n, le-ltb _ _ h))
+            route-row (rw (ne-eqb _ _ n, le-ltb _ _ h) is)
 
   -- The route of train i as a part of the file: empty where it is refused, else a part that is within the file.
   module _ (i : ℕ) where
-    pub route-code : (x : Refusal) → x ≡ routeRefusal bytes i → x .code ≡ routeCode bytes i
-    unfolding routeRefusal refusalBy
-    route-code x e = ap (λ (x : Refusal). x .code) e
-
-    pub part-none : (routeCode bytes i ≡ 0 → ⊥) → [] ≡ routePart bytes i
+    pub part-none : (routeRefusal bytes i .code ≡ 0 → ⊥) → [] ≡ routePart bytes i
     unfolding routePart
     part-none n = rw (ne-eqb _ _ n)
 
-    pub from-none : (routeCode bytes i ≡ 0 → ⊥) → 0 ≡ routeFrom bytes i
+    pub from-none : (routeRefusal bytes i .code ≡ 0 → ⊥) → 0 ≡ routeFrom bytes i
     unfolding routeFrom
     from-none n = rw (ne-eqb _ _ n)
 
-    module _ (z : routeCode bytes i ≡ 0) where
+    module _ (z : routeRefusal bytes i .code ≡ 0) where
       pub within : (fileCode bytes ≡ 0) × ((1 ≤ i) × (i ≤ trainCount bytes))
-      unfolding routeCode
+      unfolding routeRefusal
       within =
-          let (file, (train, _)) = simp (first-code-iff, first-zero-iff, outside-false-iff) at z in
+          let (file, (train, _)) = simp (then-zero-iff, file-coded, first-zero-iff, outside-false-iff) at z in
           (file, train)
 
       pub part-whole : Whole bytes

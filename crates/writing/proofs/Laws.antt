@@ -1,22 +1,23 @@
 -- Laws of bytes stored one after the other, of the lengths of a file's parts, and of what a table of code 0 has.
 use Prim.Native.Nat.{ℕ, zero, suc, _+_, _-_, _*_, _≤_, _<_}
 use mathlib.Core.Path.{_≡_, refl, sym, _∙_, ap}
-use mathlib.Core.Bool.{false}
+use mathlib.Core.Logic.{_≢_}
 use mathlib.Core.List.{List, [], _∷_, _++_}
 use native.Mathlib.Numerals.{add-one}
 use native.Mathlib.Omega.{arith}
 use borrow.Author.Tests.{lt-ltb, le-ltb, ne-eqb}
+use lib.Dec.{ltb}
 use lib.ListN.{length, getD, set, drop, length-append, List·getD-eq-default}
 use lib.Seq.{sets-eq, length-sets}
 use Rattle.rules.specs.declared.Table.{Table}
 use Rattle.rules.specs.declared.TrainPlan.{TrainPlan}
 use Rattle.rules.specs.declared.Refusal.{Refusal}
-use Rattle.rules.specs.Rows.{first, listOf, joinOf}
+use Rattle.rules.specs.Rows.{_if_, first, listOf, joinOf}
 use Rattle.rules.specs.Track.{noSegment, noBoxPlan, noTrainPlan, segmentAt, planAt, trainPlanAt, routeAt}
-use Rattle.rules.specs.Placing.{withoutPlace, tableCode, routesFaultIn, tellsPlace, refusalBy, partsRefusal, tableRefusal}
-use Rattle.rules.specs.File.{headBytes, segmentBytes, boxBytes, trainBytes, encode, writeCode, writeRefusal, written}
+use Rattle.rules.specs.Placing.{withoutPlace, tableCode, tableRefusal}
+use Rattle.rules.specs.File.{headBytes, segmentBytes, boxBytes, trainBytes, encode, writeRefusal, written}
 use Rattle.rules.proofs.Accepted.{accepted}
-use Rattle.rules.proofs.RouteFault.{refused-nowhere}
+use Rattle.rules.proofs.Refusals.{code-of, table-coded, then-refused, then-rows}
 use Rattle.rules.proofs.ReadBack.{segments-length, boxes-length, encoded-length}
 use Rattle.rules.proofs.Rows.{nth-at, list-none, list-more, list-length, join-none, join-more, sets-append}
 use Rattle.writing.specs.Written.{Bounded, Written}
@@ -151,40 +152,29 @@ unfolding trainPlanAt
 route-bounded t i b h = rw nth-at at (b .routes i h)
 
 -- A table by what a function answered for it.
-module _ (t : Table) (y : Refusal) (e : y ≡ tableRefusal t) where
-  table-code : y .code ≡ tableCode t
-  unfolding tableRefusal partsRefusal refusalBy tableCode
-  table-code = ap (λ (r : Refusal). r .code) e
-
-  pub bounded : y .code ≡ 0 → Bounded t
-  bounded z = code-bounded t (sym table-code ∙ z)
+pub bounded : (t : Table) (y : Refusal) → y ≡ tableRefusal t → y .code ≡ 0 → Bounded t
+bounded t y e z = code-bounded t (sym (table-coded t) ∙ code-of (sym e) ∙ z)
 
 -- What the writer answers, x, and its buffer: a table that is not accepted, a buffer that is too short, and a file written.
 module _ (t : Table) (buffer : List ℕ) (x y : Refusal) (e : y ≡ tableRefusal t) where
-  -- The writer's code, where it is the table's and where it is another.
-  table-coded : writeCode t buffer ≡ tableCode t → x ≡ y → x ≡ writeRefusal t buffer
-  unfolding tableRefusal partsRefusal tableCode writeRefusal
-  table-coded same is = is ∙ e ∙ ap (λ (c : ℕ). refusalBy c (routesFaultIn t)) (sym same)
-
-  coded : (c : ℕ) → tellsPlace c ≡ false → c ≡ writeCode t buffer → x ≡ withoutPlace c → x ≡ writeRefusal t buffer
-  unfolding writeRefusal
-  coded c p same is = refused-nowhere _ _ x c is p same
-
   pub refused : (y .code ≡ 0 → ⊥) → x ≡ y → (x ≡ writeRefusal t buffer) × (buffer ≡ written t buffer)
-  unfolding writeCode written first
+  unfolding writeRefusal written
   refused h is =
-      let other = ne-eqb (tableCode t) 0 (λ z. h (table-code t y e ∙ z)) in
-      (table-coded (rw other) is, rw (other, other))
+      let other : tableRefusal t .code ≢ 0 = λ z. h (code-of e ∙ z) in
+      let same = then-refused (tableRefusal t) (26 if ltb (length buffer) (length (encode t)) ∷ []) other in
+      (is ∙ e ∙ sym same, rw (same, ne-eqb (tableRefusal t .code) 0 other))
 
+  -- Past the table's code the row of 26 decides.
   module _ (z : y .code ≡ 0) where
-    accepts : tableCode t ≡ 0
-    accepts = sym (table-code t y e) ∙ z
+    by-room : writeRefusal t buffer ≡ withoutPlace (first (26 if ltb (length buffer) (length (encode t)) ∷ []))
+    unfolding writeRefusal
+    by-room = then-rows (tableRefusal t) _ (code-of (sym e) ∙ z)
 
     pub too-short : length buffer < length (encode t) → x ≡ withoutPlace 26 → (x ≡ writeRefusal t buffer) × (buffer ≡ written t buffer)
-    unfolding writeCode written first tellsPlace
-    too-short h is = (coded 26 refl (rw (accepts, lt-ltb _ _ h)) is, rw (accepts, lt-ltb _ _ h))
+    unfolding written first
+    too-short h is = rw (by-room, lt-ltb _ _ h) (is, refl)
 
     pub file-written : {o : List ℕ} {j : ℕ} → length (encode t) ≤ length buffer → Written buffer 0 (encode t) j o → x ≡ withoutPlace 0
         → (x ≡ writeRefusal t buffer) × (o ≡ written t buffer)
-    unfolding writeCode written first tellsPlace
-    file-written h w is = (coded 0 refl (rw (accepts, le-ltb _ _ h)) is, rw (accepts, le-ltb _ _ h) (written-whole w h))
+    unfolding written first
+    file-written h w is = rw (by-room, le-ltb _ _ h) (is, written-whole w h)

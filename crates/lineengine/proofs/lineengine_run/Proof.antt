@@ -2,7 +2,7 @@
 use mathlib.Core.Path.{sym, ap}
 use borrow.Author.Needs.{needs}
 use Rattle.rules.specs.declared.FileOutcome.{FileOutcome}
-use Rattle.rules.proofs.RouteFault.{numbers}
+use Rattle.rules.proofs.Refusals.{numbers}
 use Rattle.lineengine.proofs.lineengine_run.Statement.{statement}
 use Rattle.lineengine.proofs.lineengine_run.Tie as tie
 

@@ -1,23 +1,13 @@
--- What is written is the table of what was read, and so the file's bytes.
+-- The numbers of what refused it are passed on.
 use borrow.Author.Needs.{needs}
-use Rattle.rules.proofs.RouteFault.{numbers}
-use Rattle.lineengine.proofs.Tables.{refused-back, accepted-back}
+use Rattle.rules.proofs.Refusals.{numbers}
 use Rattle.lineengine.proofs.lineengine_write_back.Statement.{statement}
 use Rattle.lineengine.proofs.lineengine_write_back.Tie as tie
 
 returns : tie.Need-returns
 returns c =
-    let (refusal, buffer) = refused-back _ _ _ (c .before .before .before .read-table .ensures) (c .if1 .taken) in
-    numbers refusal buffer
-
-returns-2 : tie.Need-returns-2
-returns-2 c =
-    let wrote = c .before .before in
-    let test = wrote .before .before .before in
-    let (written, after) = wrote .write .ensures in
-    let (refusal, buffer) = accepted-back _ _ _ (test .before .before .before .read-table .ensures) (test .if1 .left) _ _ written after in
+    let (refusal, buffer) = c .before .before .written-back .ensures in
     numbers refusal buffer
 
 pub lineengine-write-back-spec : {M : Type 1} → statement M
-lineengine-write-back-spec =
-    tie.close (tie.spec (λ c κs. search needs) returns (λ c κs. search needs) (λ c. search needs) returns-2)
+lineengine-write-back-spec = tie.close (tie.spec (λ c κs. search needs) (λ c. search needs) returns)

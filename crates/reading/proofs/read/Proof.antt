@@ -1,13 +1,13 @@
 -- By codes 1 to 5, then by what refuses the table's parts; the line at its start is made of the same parts.
 use Prim.Native.Nat.{ℕ, _≤_}
-use mathlib.Core.Path.{_≡_, sym, _∙_, ap}
+use mathlib.Core.Path.{_≡_, sym, _∙_}
 use mathlib.Core.List.{List}
 use borrow.Author.Needs.{needs}
 use lib.ListN.{length}
-use Rattle.rules.specs.declared.Refusal.{Refusal}
 use Rattle.rules.specs.Track.{trackOf, trackIn}
 use Rattle.rules.specs.File.{fileRefusal, decode}
 use Rattle.rules.proofs.Rows.{length-mapped}
+use Rattle.rules.proofs.Refusals.{code-of}
 use Rattle.network.proofs.Tracks.{track-made}
 use Rattle.layout.proofs.Codes.{parts-answer}
 use Rattle.tablefile.proofs.Files.{refused-early, file-whole, table-some, refused-late}
@@ -22,7 +22,7 @@ returns c =
     let n = test .if1 .taken in
     let is = c .before .without-place .ensures in
     let refusal = refused-early _ _ (test .before .early-code .ensures) n _ is in
-    read-refused _ _ _ refusal (λ z. n (ap (λ (r : Refusal). r .code) (sym is) ∙ z)) (c .line .ensures)
+    read-refused _ _ _ refusal (λ z. n (code-of (sym is) ∙ z)) (c .line .ensures)
 
 -- The table is the file's; its counts are within its arrays.
 module _ (c : tie.After-table) where

@@ -4,25 +4,25 @@ use mathlib.Core.Path.{_≡_, refl, sym, _∙_}
 use native.Mathlib.Omega.{arith}
 use borrow.Author.Needs.{needs}
 use lib.ListN.{length, getD}
-use Rattle.rules.specs.File.{byteAt, segmentCount, boxCount, routeCode}
-use Rattle.rules.proofs.RouteFault.{numbers}
+use Rattle.rules.specs.File.{byteAt, segmentCount, boxCount, routeRefusal}
+use Rattle.rules.proofs.Refusals.{code-of, numbers}
 use Rattle.tablefile.proofs.Parts.{whole-boxes}
 use Rattle.tablefile.proofs.Placed.{placed, placed-further}
-use Rattle.tablefile.proofs.Files.{within, route-code, part-none, from-none, part-whole, part-place, part-room, part-some, from-some}
+use Rattle.tablefile.proofs.Files.{within, part-none, from-none, part-whole, part-place, part-room, part-some, from-some}
 use Rattle.tablefile.proofs.route.Statement.{statement}
 use Rattle.tablefile.proofs.route.Tie as tie
 
 returns : tie.Need-returns
 returns c =
     let refusal = c .before .before .before .route-refusal .ensures in
-    let refused : routeCode _ _ ≡ 0 → ⊥ = λ e. c .before .if1 .taken (route-code _ _ _ refusal ∙ e) in
+    let refused : routeRefusal _ _ .code ≡ 0 → ⊥ = λ e. c .before .if1 .taken (code-of refusal ∙ e) in
     numbers refusal (placed (c .before .before .before .before .before .args .bytes .ptr) _ 0 (from-none _ _ refused), part-none _ _ refused)
 
 -- The route's code is 0 past the test.
 taken : (c : tie.Else1) →
     let start = c .before .before .before .before in
-    routeCode (start .args .bytes .now) (start .args .number) ≡ 0
-taken c = sym (route-code _ _ _ (c .before .before .route-refusal .ensures)) ∙ c .if1 .left
+    routeRefusal (start .args .bytes .now) (start .args .number) .code ≡ 0
+taken c = code-of (sym (c .before .before .route-refusal .ensures)) ∙ c .if1 .left
 
 read-n : tie.Need-shared-slice-read-n
 read-n c = omega (arith, whole-boxes _ (part-whole _ _ (taken (c .before))))

@@ -73,8 +73,8 @@ pub extern "C" fn lineengine_print(
     0
 }
 
-// Reads a table file and writes its table to the front of the lent buffer.
-fn written_back(table: &[u8], buffer: &mut [u8]) -> Refusal
+// What `lineengine_write_back` does, with the refusal as one record.
+fn write_back(table: &[u8], buffer: &mut [u8]) -> Refusal
     ensures { λ r. ⌜ r ≡ writeBackRefusal (now (table .entry)) (now (buffer .entry)) ⌝ }
     ensures { λ r. ⌜ now (buffer .exit) ≡ writtenBack (now (table .entry)) (now (buffer .entry)) ⌝ }
 {
@@ -101,7 +101,7 @@ pub extern "C" fn lineengine_write_back(
     ensures { λ r. ⌜ now (place .exit) ≡ writeBackRefusal (now (table .entry)) (now (buffer .entry)) .place ⌝ }
     ensures { λ r. ⌜ now (buffer .exit) ≡ writtenBack (now (table .entry)) (now (buffer .entry)) ⌝ }
 {
-    let wrote = written_back(table, buffer);
+    let wrote = write_back(table, buffer);
     *train = wrote.train;
     *place = wrote.place;
     wrote.code

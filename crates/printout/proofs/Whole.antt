@@ -21,7 +21,7 @@ use Rattle.rules.specs.History.{Call, lineAfter, events}
 use Rattle.rules.specs.Run.{wholeSteps, stepCount, answersOf, partialAnswer, answersFrom, runRefusal, run, answered, SafeRun}
 use Rattle.rules.specs.Printout.{bytesOf, textLine, mostSteps, stepLine, stepLineOf, lineText, moreLine, takenOf, runText, fileLine, printoutUpTo, printout, textRoom, printCode, printLength, printedText, printedAnswers}
 use Rattle.rules.proofs.Rows.{join-same}
-use Rattle.rules.proofs.Refusals.{code-of, file-coded, accepted-refusal, then-refused, then-rows}
+use Rattle.rules.proofs.Refusals.{code-of, file-coded, accepted-refusal, then-refused, then-none}
 use Rattle.rules.proofs.Files.{file-iff}
 use Rattle.rules.proofs.Runs.{answers-length}
 use Rattle.writing.proofs.Laws.{written-whole}
@@ -108,12 +108,10 @@ run-text file input answers {l} {a} e safe =
 
 -- A run with room for its answers is refused as its file is, and the line of an accepted table is within its limits.
 run-file-refusal : (call : Call) (file steps buffer : List ℕ) → stepCount steps ≤ length buffer → run call file steps buffer .refusal ≡ fileRefusal file
-unfolding run runRefusal first
+unfolding run runRefusal
 run-file-refusal call file steps buffer h =
     elim (ℕ-discrete (fileRefusal file .code) 0) [
-      | yes e ↦
-          then-rows (fileRefusal file) _ e
-          ∙ rw (le-ltb _ _ h) (sym (accepted-refusal file (sym (file-coded file) ∙ e)))
+      | yes e ↦ then-none (fileRefusal file) e 26 _ (le-ltb _ _ h) ∙ sym (accepted-refusal file (sym (file-coded file) ∙ e))
       | no e ↦ then-refused (fileRefusal file) _ e
     ]
 

@@ -2,18 +2,18 @@
 use Prim.Native.Nat.{ℕ}
 use mathlib.Core.Path.{_≡_, refl, sym, _∙_, ap}
 use mathlib.Core.Logic.{_↔_, _≢_}
-use mathlib.Core.Bool.{true, false}
-use mathlib.Core.List.{List}
+use mathlib.Core.Bool.{Bool, true, false}
+use mathlib.Core.List.{List, [], _∷_}
 use native.Mathlib.Decide.{ℕ-discrete}
 use borrow.Author.Tests.{eq-eqb, ne-eqb}
 use Rattle.rules.specs.declared.Table.{Table}
 use Rattle.rules.specs.declared.Refusal.{Refusal}
-use Rattle.rules.specs.Rows.{Row, first}
+use Rattle.rules.specs.Rows.{Row, _if_, first}
 use Rattle.rules.specs.Placing.{withoutPlace, tableCode, tellsPlace, refusalBy, partsRefusal, tableRefusal, refusedThen}
 use Rattle.rules.specs.File.{fileCode, fileRefusal}
 use Rattle.rules.proofs.Tests.{EachCode, each-code}
 
--- The three numbers of equal refusals; beside them what else is promised; and the codes of what refuses a table or a file.
+-- The three numbers of equal refusals; beside them what else is promised.
 module _ {x y : Refusal} (e : x ≡ y) where
   pub code-of : x .code ≡ y .code
   code-of = ap (λ (r : Refusal). r .code) e
@@ -27,6 +27,7 @@ module _ {x y : Refusal} (e : x ≡ y) where
   pub numbers : {Else : Type 0} → Else → (x .code ≡ y .code) × ((x .train ≡ y .train) × ((x .place ≡ y .place) × Else))
   numbers rest = (code-of, (train-of, (place-of, rest)))
 
+-- The codes of what refuses a table or a file.
 pub table-coded : (t : Table) → tableRefusal t .code ≡ tableCode t
 unfolding tableRefusal partsRefusal refusalBy tableCode
 table-coded t = refl
@@ -36,10 +37,7 @@ unfolding fileRefusal refusalBy
 file-coded bytes = refl
 
 -- Rows whose codes are about no place of a route: so is the code of the list.
-abbrev pub Placeless : List Row → Type 0
-Placeless rows = EachCode (λ c. tellsPlace c ≡ false) rows
-
-pub placeless : (rows : List Row) → Placeless rows → tellsPlace (first rows) ≡ false
+pub placeless : (rows : List Row) → EachCode (λ c. tellsPlace c ≡ false) rows → tellsPlace (first rows) ≡ false
 placeless = each-code (λ c. tellsPlace c ≡ false)
 
 -- A code that is about no place gives neither train nor place; one that is gives those that the search has found.
@@ -83,3 +81,13 @@ module _ (r : Refusal) (rows : List Row) where
         | yes e ↦ (λ z. (e, sym (code-of (then-rows e)) ∙ z), λ (_, z). code-of (then-rows e) ∙ z)
         | no h ↦ (λ z. absurd (h (sym (code-of (then-refused h)) ∙ z)), λ (e, _). absurd (h e))
       ]
+
+-- One row after r, which is none: it applies, or does not.
+module _ (r : Refusal) (e : r .code ≡ 0) (c : ℕ) (b : Bool) where
+  pub then-hit : b ≡ true → refusedThen r (c if b ∷ []) ≡ withoutPlace c
+  unfolding first
+  then-hit h = then-rows r _ e ∙ rw h
+
+  pub then-none : b ≡ false → refusedThen r (c if b ∷ []) ≡ withoutPlace 0
+  unfolding first
+  then-none h = then-rows r _ e ∙ rw h

@@ -1,8 +1,8 @@
 -- Laws of the search for the first refusal, and what the search through a table's routes finds.
 use Prim.Native.Nat.{ℕ, zero, suc, _+_, _-_, _≤_, _<_}
-use mathlib.Core.Path.{_≡_, refl, sym, _∙_, ap}
-use mathlib.Core.Logic.{inl, inr, ⊎-elim, _↔_, _≢_}
-use mathlib.Core.Bool.{Bool, true, false, not, false≢true}
+use mathlib.Core.Path.{_≡_, refl, sym, _∙_}
+use mathlib.Core.Logic.{⊎-elim, _↔_, _≢_}
+use mathlib.Core.Bool.{Bool, true, false, false≢true}
 use mathlib.Core.List.{List, [], _∷_}
 use native.Mathlib.Decide.{ℕ-discrete}
 use native.Mathlib.Numerals.{add-one}
@@ -11,7 +11,6 @@ use borrow.Author.Tests.{eq-eqb, ne-eqb}
 use Rattle.rules.specs.declared.TrainPlan.{TrainPlan}
 use Rattle.rules.specs.declared.Table.{Table}
 use Rattle.rules.specs.declared.Refusal.{Refusal}
-use lib.Dec.{eqb}
 use Rattle.rules.specs.Rows.{Row, _if_, first}
 use Rattle.rules.specs.Track.{trainPlanAt, Track, trackOf}
 use Rattle.rules.specs.Network.{headRows, networkRows}
@@ -22,7 +21,7 @@ use Rattle.rules.proofs.Tests.{EachCode, each-code}
 use Rattle.rules.proofs.Refusals.{code-of, with-place}
 
 -- What the search through f i, f (i + 1) and so on, n of them, ends in: none of them is a refusal; or f s is the first.
-pub data FirstIn (i n : ℕ) (f : ℕ → Refusal) (r : Refusal) : Type 0 where
+data FirstIn (i n : ℕ) (f : ℕ → Refusal) (r : Refusal) : Type 0 where
   none : r ≡ withoutPlace 0 → ((s : ℕ) → i ≤ s → s < i + n → f s .code ≡ 0) → FirstIn i n f r
   found : (s : ℕ) → i ≤ s → s < i + n → f s ≡ r → f s .code ≢ 0 → ((q : ℕ) → i ≤ q → q < s → f q .code ≡ 0) → FirstIn i n f r
 
@@ -48,7 +47,7 @@ first-in f (suc n) i =
       | no h ↦ found i (omega arith) (omega arith) (from-hit i n f h) h λ q l g. absurd (omega arith)
     ]
 
-pub first-in-all : (f : ℕ → Refusal) (n : ℕ) → FirstIn 1 n f (firstOf n f)
+first-in-all : (f : ℕ → Refusal) (n : ℕ) → FirstIn 1 n f (firstOf n f)
 unfolding firstOf
 first-in-all f n = first-in f n 1
 
@@ -61,7 +60,7 @@ first-of-zero-iff n f =
     ]
 
 -- What holds of every refusal that is looked at holds of the one that is found.
-pub first-each : (P : Refusal → Type 0) (f : ℕ → Refusal) (n : ℕ) → ((s : ℕ) → f s .code ≢ 0 → P (f s)) → firstOf n f .code ≢ 0 → P (firstOf n f)
+first-each : (P : Refusal → Type 0) (f : ℕ → Refusal) (n : ℕ) → ((s : ℕ) → f s .code ≢ 0 → P (f s)) → firstOf n f .code ≢ 0 → P (firstOf n f)
 first-each P f n h c =
     elim (first-in-all f n) [
       | none z g ↦ absurd (c (code-of z))
@@ -124,13 +123,13 @@ found-tells n k track trains routes =
 abbrev SearchAlone : ℕ → ℕ → Type 0
 SearchAlone searched c = tellsPlace c ≡ true → c ≡ searched
 
-other : {searched : ℕ} (c : ℕ) → tellsPlace c ≡ false → SearchAlone searched c
-other c e h = absurd (false≢true (sym e ∙ h))
+other : {searched c : ℕ} → tellsPlace c ≡ false → SearchAlone searched c
+other e h = absurd (false≢true (sym e ∙ h))
 
 placing-alone : (n k : ℕ) (track : Track) (trains : List TrainPlan) (routes : List ℕ)
     → EachCode (SearchAlone (routesFault n k track trains routes .code)) (placingRows n k track trains routes)
 unfolding EachCode placingRows tellsPlace
-placing-alone n k track trains routes = (other 10 refl, (λ _. refl, (other 12 refl, other 0 refl)))
+placing-alone n k track trains routes = (other refl, (λ _. refl, (other refl, other refl)))
 
 -- So what a table or a file with code 11 or 28 is refused by is what the search finds, its code too.
 told : (r : Refusal) (rows : List Row) → EachCode (SearchAlone (r .code)) rows → tellsPlace (first rows) ≡ true
@@ -144,7 +143,7 @@ unfolding EachCode tableRefusal partsRefusal tableCode partsCode headRows networ
 table-told t =
     let placed = placing-alone (t .n) (t .k) (trackOf t) (t .trains) (t .routes) in
     told (routesFaultIn t) _
-    (other 3 refl, (other 4 refl, (other 6 refl, (other 7 refl, (other 8 refl, (other 9 refl, placed))))))
+    (other refl, (other refl, (other refl, (other refl, (other refl, (other refl, placed))))))
 
 pub file-told : (bytes : List ℕ) → tellsPlace (fileCode bytes) ≡ true → fileRefusal bytes ≡ routesFaultIn (decode bytes)
 unfolding EachCode fileRefusal fileCode earlyRows headRows networkRows tellsPlace
@@ -152,7 +151,7 @@ file-told bytes =
     let t = decode bytes in
     let placed = placing-alone (t .n) (t .k) (trackOf t) (t .trains) (t .routes) in
     told (routesFaultIn t) _
-    (other 1 refl, (other 2 refl, (other 3 refl, (other 4 refl, (other 5 refl, (other 6 refl, (other 7 refl, (other 8 refl, (other 9 refl, placed)))))))))
+    (other refl, (other refl, (other refl, (other refl, (other refl, (other refl, (other refl, (other refl, (other refl, placed)))))))))
 
 -- The routes of a table: what the search finds on train i's route, and the places that it looks at.
 module _ (t : Table) where

@@ -202,7 +202,7 @@ unfolding first
 first-zero-iff c true rows h = (λ e. absurd (eqb-false c 0 h e), λ e. absurd (false≢true (sym (e .0))))
 first-zero-iff c false rows h = (λ e. (refl, e), λ e. e .1)
 
--- A row that passes on the code c of another list, where it is not 0.
+-- A row that passes on the code c that a search has found, where it is not 0.
 pub first-code-iff : (c : ℕ) (rows : List Row) → (first (c if not (eqb c 0) ∷ rows) ≡ 0) ↔ ((c ≡ 0) × (first rows ≡ 0))
 unfolding first
 first-code-iff zero rows = (λ e. (refl, e), λ e. e .1)

@@ -128,8 +128,8 @@ fileCode bytes = first (earlyRows bytes ++ conditionRows (decode bytes))
 unfoldable pub fileRefusal : List ℕ → Refusal
 fileRefusal bytes = refusalBy (fileCode bytes) (routesFaultIn (decode bytes))
 
--- The route of train i as a part of the file: refused as the file is, then with 14 for a train 0 or above k; the part is empty then,
--- at the file's beginning.
+-- The route of train i as a part of the file: refused as the file is, then with 14 for a train 0 or above k; where it is refused, the
+-- part is empty, at the file's beginning.
 unfoldable pub routeRefusal : List ℕ → ℕ → Refusal
 routeRefusal bytes i = refusedThen (fileRefusal bytes) (14 if outside (trainCount bytes) i ∷ [])
 

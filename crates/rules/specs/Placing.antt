@@ -33,7 +33,7 @@ firstOf n f = firstFrom 1 n f
 unfoldable pub placeRows : ℕ → Track → ℕ → ℕ → ℕ → ℕ → List Row
 placeRows n track d p before s = 11 if outside n s ∷ 28 if (ltb 1 p && not (follows track d before s)) ∷ []
 
--- The same at place p of train i's route, with train and place.
+-- The same at place p of train i's route, with train and place; with code 0 it is no fault, and a search passes it by.
 unfoldable pub routePlaceFault : ℕ → Track → List ℕ → ℕ → ℕ → ℕ → Refusal
 routePlaceFault n track routes i d p =
     record {
@@ -112,6 +112,6 @@ partsRefusal version n m k track plans trains routes =
 unfoldable pub tableRefusal : Table → Refusal
 tableRefusal t = partsRefusal (t .version) (t .n) (t .m) (t .k) (trackOf t) (t .boxes) (t .trains) (t .routes)
 
--- Refused as r is or, where r is none, by the first of these rows that applies.
+-- Refused as r is or, where r is none, by the first of these rows that applies; their codes are about no place of a route.
 unfoldable pub refusedThen : Refusal → List Row → Refusal
 refusedThen r rows = cond (eqb (r .code) 0) (withoutPlace (first rows)) r

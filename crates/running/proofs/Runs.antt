@@ -10,7 +10,7 @@ use lib.ListN.{length, drop}
 use Rattle.rules.specs.declared.Line.{Line}
 use Rattle.rules.specs.declared.Refusal.{Refusal}
 use Rattle.rules.specs.declared.FileOutcome.{FileOutcome}
-use Rattle.rules.specs.Rows.{_if_, first}
+use Rattle.rules.specs.Rows.{_if_}
 use Rattle.rules.specs.Placing.{withoutPlace}
 use Rattle.rules.specs.File.{fileCode, fileRefusal, decode}
 use Rattle.rules.specs.Line.{startLine, emptyLine, read}
@@ -19,7 +19,7 @@ use Rattle.rules.specs.Record.{checkedStep}
 use Rattle.rules.specs.History.{lineAfter}
 use Rattle.rules.specs.Safety.{StaysSound}
 use Rattle.rules.specs.Run.{wholeSteps, stepCount, answersFrom, runRefusal, run, answered, Ran}
-use Rattle.rules.proofs.Refusals.{code-of, file-coded, then-refused, then-rows}
+use Rattle.rules.proofs.Refusals.{code-of, file-coded, then-refused, then-hit, then-none}
 use Rattle.rules.proofs.Runs.{start-sound, checked-run, checked-answers, safe-run}
 
 -- What the reader gives: why a file is refused, and the start line of an accepted file.
@@ -52,17 +52,16 @@ module _ (file steps buffer : List ℕ) (o : FileOutcome) (is : o ≡ read file)
 
   -- Past the file's code the row of 26 decides.
   module _ (zero : o .refusal .code ≡ 0) where
-    by-room : runRefusal file steps buffer ≡ withoutPlace (first (26 if ltb (length buffer) (stepCount steps) ∷ []))
-    unfolding runRefusal
-    by-room = then-rows (fileRefusal file) _ (code-of (sym (read-refusal file o is)) ∙ zero)
+    file-zero : fileRefusal file .code ≡ 0
+    file-zero = code-of (sym (read-refusal file o is)) ∙ zero
 
     short : length buffer < stepCount steps → runRefusal file steps buffer ≡ withoutPlace 26
-    unfolding first
-    short h = by-room ∙ rw (lt-ltb (length buffer) (stepCount steps) h)
+    unfolding runRefusal
+    short h = then-hit (fileRefusal file) file-zero 26 _ (lt-ltb _ _ h)
 
     roomy : stepCount steps ≤ length buffer → runRefusal file steps buffer ≡ withoutPlace 0
-    unfolding first
-    roomy h = by-room ∙ rw (le-ltb (length buffer) (stepCount steps) h)
+    unfolding runRefusal
+    roomy h = then-none (fileRefusal file) file-zero 26 _ (le-ltb _ _ h)
 
     pub run-short : length buffer < stepCount steps
         → (x : Refusal) → x ≡ withoutPlace 26 → (l : Line) → l ≡ emptyLine → Ran file steps buffer (record { refusal = x; line = l }) buffer

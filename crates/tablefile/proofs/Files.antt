@@ -1,7 +1,7 @@
 -- The table of a file, and the routes of its trains.
 use Prim.Native.Nat.{ℕ, _+_, _-_, _≤_, _<_}
 use mathlib.Core.Path.{_≡_, refl, sym, _∙_, ap}
-use mathlib.Core.List.{List, [], _∷_}
+use mathlib.Core.List.{List, []}
 use native.Mathlib.Decide.{ℕ-discrete}
 use native.Mathlib.Omega.{arith}
 use borrow.Author.Tests.{lt-ltb, le-ltb, eq-eqb, ne-eqb}
@@ -10,12 +10,12 @@ use lib.ListN.{length, getD, take, drop, length-drop}
 use lib.Seq.{getD-drop, drop-drop}
 use Rattle.rules.specs.declared.Table.{Table}
 use Rattle.rules.specs.declared.Refusal.{Refusal}
-use Rattle.rules.specs.Rows.{_if_, first, outside}
+use Rattle.rules.specs.Rows.{outside}
 use Rattle.rules.specs.Placing.{withoutPlace, tableRefusal}
 use Rattle.rules.specs.File.{byteAt, trainCount, trainsFrom, trainStart, trainSize, fileCode, fileRefusal, decode, routeRefusal, routePart, routeFrom}
 use Rattle.rules.specs.Line.{emptyTable}
-use Rattle.rules.proofs.Tests.{or-right, outside-false-iff, first-zero-iff}
-use Rattle.rules.proofs.Refusals.{code-of, file-coded, refused-nowhere, then-refused, then-rows, then-zero-iff}
+use Rattle.rules.proofs.Tests.{or-left, or-right, or-false, outside-false-iff, first-zero-iff}
+use Rattle.rules.proofs.Refusals.{code-of, file-coded, refused-nowhere, then-refused, then-zero-iff, then-hit, then-none}
 use Rattle.tablefile.specs.declared.FileTable.{FileTable}
 use Rattle.tablefile.specs.Whole.{earlyCode, Whole, tableIn, fileTable}
 use Rattle.tablefile.proofs.Parts.{route-in, train-room}
@@ -83,25 +83,24 @@ module _ (bytes : List ℕ) where
         file-trains = ap (λ (x : Table). x .k) (file-table z)
 
         -- Past the file's code the row of 14 decides.
-        route-row : x ≡ withoutPlace (first (14 if outside (trainCount bytes) i ∷ [])) → x ≡ routeRefusal bytes i
-        unfolding routeRefusal
-        route-row is = is ∙ sym (then-rows (fileRefusal bytes) _ (code-of (sym file-refusal) ∙ z))
+        file-zero : fileRefusal bytes .code ≡ 0
+        file-zero = code-of (sym file-refusal) ∙ z
 
         pub route-none : i ≡ 0 → x ≡ withoutPlace 14 → x ≡ routeRefusal bytes i
-        unfolding first outside
-        route-none e is = route-row (rw (eq-eqb _ _ e) is)
+        unfolding routeRefusal outside
+        route-none e is = is ∙ sym (then-hit (fileRefusal bytes) file-zero 14 _ (or-left _ _ (eq-eqb _ _ e)))
 
         pub route-above : d .table .k < i → x ≡ withoutPlace 14 → x ≡ routeRefusal bytes i
-        unfolding first outside
+        unfolding routeRefusal outside
         route-above l is =
             let h : trainCount bytes < i = omega (arith, file-trains) in
-            route-row (rw (or-right (eqb i 0) _ (lt-ltb _ _ h)) is)
+            is ∙ sym (then-hit (fileRefusal bytes) file-zero 14 _ (or-right (eqb i 0) _ (lt-ltb _ _ h)))
 
         pub route-within : (i ≡ 0 → ⊥) → i ≤ d .table .k → x ≡ withoutPlace 0 → x ≡ routeRefusal bytes i
-        unfolding first outside
+        unfolding routeRefusal outside
         route-within n l is =
             let h : i ≤ trainCount bytes = omega (arith, file-trains) in
-            route-row (rw (ne-eqb _ _ n, le-ltb _ _ h) is)
+            is ∙ sym (then-none (fileRefusal bytes) file-zero 14 _ (or-false _ _ (ne-eqb _ _ n) (le-ltb _ _ h)))
 
   -- The route of train i as a part of the file: empty where it is refused, else a part that is within the file.
   module _ (i : ℕ) where

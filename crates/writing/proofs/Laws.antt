@@ -12,12 +12,12 @@ use lib.Seq.{sets-eq, length-sets}
 use Rattle.rules.specs.declared.Table.{Table}
 use Rattle.rules.specs.declared.TrainPlan.{TrainPlan}
 use Rattle.rules.specs.declared.Refusal.{Refusal}
-use Rattle.rules.specs.Rows.{_if_, first, listOf, joinOf}
+use Rattle.rules.specs.Rows.{_if_, listOf, joinOf}
 use Rattle.rules.specs.Track.{noSegment, noBoxPlan, noTrainPlan, segmentAt, planAt, trainPlanAt, routeAt}
 use Rattle.rules.specs.Placing.{withoutPlace, tableCode, tableRefusal}
 use Rattle.rules.specs.File.{headBytes, segmentBytes, boxBytes, trainBytes, encode, writeRefusal, written}
 use Rattle.rules.proofs.Accepted.{accepted}
-use Rattle.rules.proofs.Refusals.{code-of, table-coded, then-refused, then-rows}
+use Rattle.rules.proofs.Refusals.{code-of, table-coded, then-refused, then-hit, then-none}
 use Rattle.rules.proofs.ReadBack.{segments-length, boxes-length, encoded-length}
 use Rattle.rules.proofs.Rows.{nth-at, list-none, list-more, list-length, join-none, join-more, sets-append}
 use Rattle.writing.specs.Written.{Bounded, Written}
@@ -166,15 +166,14 @@ module _ (t : Table) (buffer : List ℕ) (x y : Refusal) (e : y ≡ tableRefusal
 
   -- Past the table's code the row of 26 decides.
   module _ (z : y .code ≡ 0) where
-    by-room : writeRefusal t buffer ≡ withoutPlace (first (26 if ltb (length buffer) (length (encode t)) ∷ []))
-    unfolding writeRefusal
-    by-room = then-rows (tableRefusal t) _ (code-of (sym e) ∙ z)
+    table-zero : tableRefusal t .code ≡ 0
+    table-zero = code-of (sym e) ∙ z
 
     pub too-short : length buffer < length (encode t) → x ≡ withoutPlace 26 → (x ≡ writeRefusal t buffer) × (buffer ≡ written t buffer)
-    unfolding written first
-    too-short h is = rw (by-room, lt-ltb _ _ h) (is, refl)
+    unfolding writeRefusal written
+    too-short h is = rw (then-hit (tableRefusal t) table-zero 26 _ (lt-ltb _ _ h)) (is, refl)
 
     pub file-written : {o : List ℕ} {j : ℕ} → length (encode t) ≤ length buffer → Written buffer 0 (encode t) j o → x ≡ withoutPlace 0
         → (x ≡ writeRefusal t buffer) × (o ≡ written t buffer)
-    unfolding written first
-    file-written h w is = rw (by-room, le-ltb _ _ h) (is, written-whole w h)
+    unfolding writeRefusal written
+    file-written h w is = rw (then-none (tableRefusal t) table-zero 26 _ (le-ltb _ _ h)) (is, written-whole w h)

@@ -6,7 +6,7 @@ use Rattle.lineengine.proofs.lineengine_write_back.Tie as tie
 
 returns : tie.Need-returns
 returns c =
-    let (refusal, buffer) = c .before .before .written-back .ensures in
+    let (refusal, buffer) = c .before .before .write-back .ensures in
     numbers refusal buffer
 
 pub lineengine-write-back-spec : {M : Type 1} → statement M

@@ -1,8 +1,8 @@
 -- What is written is the table of what was read, and so the file's bytes.
 use borrow.Author.Needs.{needs}
 use Rattle.lineengine.proofs.Tables.{refused-back, accepted-back}
-use Rattle.lineengine.proofs.written_back.Statement.{statement}
-use Rattle.lineengine.proofs.written_back.Tie as tie
+use Rattle.lineengine.proofs.write_back.Statement.{statement}
+use Rattle.lineengine.proofs.write_back.Tie as tie
 
 returns : tie.Need-returns
 returns c = refused-back _ _ _ (c .before .before .before .read-table .ensures) (c .if1 .taken)
@@ -14,6 +14,6 @@ returns-2 c =
     let (answer, after) = wrote .write .ensures in
     accepted-back _ _ _ (test .before .before .before .read-table .ensures) (test .if1 .left) _ _ answer after
 
-pub written-back-spec : {M : Type 1} → statement M
-written-back-spec =
+pub write-back-spec : {M : Type 1} → statement M
+write-back-spec =
     tie.close (tie.spec (λ c κs. search needs) returns (λ c κs. search needs) (λ c. search needs) returns-2)

@@ -135,9 +135,8 @@ placingCases =
     ∷ codeOf (set (longRoute 255) 9 1) gives (6 ∷ 0 ∷ 0 ∷ [])
     ∷ codeOf (set (set tableS 38 0) 41 2) gives (10 ∷ 0 ∷ 0 ∷ [])
     ∷ codeOf (set (set tableS 39 4) 41 2) gives (10 ∷ 0 ∷ 0 ∷ [])
-    -- 10 of train 16 before 11 of train 1, which alone is 11.
+    -- 10 of train 16 before 11 of train 1.
     ∷ codeOf (set (set separate 586 0) 629 2) gives (10 ∷ 0 ∷ 0 ∷ [])
-    ∷ codeOf (set separate 586 0) gives (11 ∷ 1 ∷ 1 ∷ [])
     -- 11: a route segment 0 or above n, the first and the last. 28: one that does not follow, the second and the last; a route against
     -- its direction.
     ∷ misrouted 38 0 11 1 1
@@ -145,9 +144,6 @@ placingCases =
     ∷ misrouted 39 4 28 1 2
     ∷ misrouted 45 2 28 2 3
     ∷ misrouted 41 0 28 2 2
-    -- Both at the last place of the longest route, train 16's.
-    ∷ codeOf (set fullLine 640 97) gives (11 ∷ 16 ∷ 64 ∷ [])
-    ∷ codeOf (set fullLine 640 96) gives (28 ∷ 16 ∷ 64 ∷ [])
     -- Of two faults the first counts: that on an earlier train's route, or earlier on one route. A place with both has 11.
     ∷ codeOf (set (set tableS 40 1) 43 0) gives (28 ∷ 1 ∷ 3 ∷ [])
     ∷ codeOf (set (set tableS 40 5) 44 1) gives (11 ∷ 1 ∷ 3 ∷ [])
@@ -192,7 +188,8 @@ writerCases =
     ∷ routeOf (set tableS 9 1) 0 gives (6 ∷ 0 ∷ 0 ∷ 0 ∷ [])
     ∷ routeOf (set tableS 45 5) 1 gives (11 ∷ 2 ∷ 3 ∷ 0 ∷ [])
     ∷ routeOf parallelRoute 0 gives (28 ∷ 1 ∷ 2 ∷ 0 ∷ [])
-    -- A refused file is printed as its code alone, whatever the input; with 11 and 28 train and place come after it.
+    -- A refused file is printed as its code alone, whatever the input; with 11 and 28 train and place come after it, the last place of
+    -- the longest route, train 16's, among them.
     ∷ printed [] (1 ∷ 1 ∷ 2 ∷ []) gives bytesOf "file 1\n"
     ∷ printed (set tableS 36 2) [] gives bytesOf "file 10\n"
     ∷ printed (set tableS 45 5) [] gives bytesOf "file 11 2 3\n"

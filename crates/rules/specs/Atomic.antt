@@ -1,12 +1,12 @@
 -- Atomic steps (01: whole steps): their order, made from steps and answers alone, and the atomic line (01: whole line), which
--- takes each granted request whole. The atomic line is a line whose trains have no messages.
+-- takes each granted request whole, give-backs among them. The atomic line is a line whose trains have no messages.
 use Prim.Native.Nat.{ℕ}
 use mathlib.Core.Bool.{Bool, false, cond, not, _&&_, _||_}
 use mathlib.Core.List.{List, [], _∷_, _++_, Option·toList}
 use mathlib.Core.Option.{Option, none, some}
 use lib.Dec.{eqb}
 use Rattle.rules.specs.declared.Request.{Request}
-use Rattle.rules.specs.declared.Request.the-variants.{Reserve, Lock}
+use Rattle.rules.specs.declared.Request.the-variants.{Reserve, Lock, GiveBack, Unlock}
 use Rattle.rules.specs.declared.BoxPlan.{BoxPlan}
 use Rattle.rules.specs.declared.SwitchBox.{SwitchBox}
 use Rattle.rules.specs.declared.Train.{Train}
@@ -18,7 +18,7 @@ use Rattle.rules.specs.declared.Outcome.{Outcome}
 use Rattle.rules.specs.Rows.{first}
 use Rattle.rules.specs.Track.{planAt}
 use Rattle.rules.specs.Line.{around, boxAt, trainAt}
-use Rattle.rules.specs.Steps.{Step, apply, unless, requestRows, boxRows, granted, withHolding, enter, clear, concernedBox}
+use Rattle.rules.specs.Steps.{Step, apply, holding, givesBack, unless, requestRows, boxRows, granted, withHolding, withoutHolding, enter, clear, concernedBox}
 use Rattle.rules.specs.History.{Event}
 
 -- The last request of each train that was answered 0.
@@ -26,7 +26,7 @@ abbrev pub Kept : Type 0
 Kept = ℕ → Option Step
 
 unfoldable pub isRequest : Step → Bool
-isRequest s = eqb (s .kind) 1 || eqb (s .kind) 2
+isRequest s = eqb (s .kind) 1 || eqb (s .kind) 2 || eqb (s .kind) 7 || eqb (s .kind) 8
 
 unfoldable pub keep : Kept → Event → Kept
 keep kept e i =
@@ -47,11 +47,12 @@ orderFrom kept (e ∷ rest) = added kept e ++ orderFrom (keep kept e) rest
 unfoldable pub order : List Event → List Step
 order es = orderFrom (λ i. none) es
 
--- An atomic request: kind 1 or 2, then 3 and 4, in one. Where no code of its rows stops it, the box grants it and the train
--- records the holding at once.
+-- An atomic request: kind 1, 2, 7 or 8, then 3 and 4, in one. Where no code of its rows stops it, the box grants it, and the train
+-- records the holding at once, or drops the record of what it gives back.
 unfoldable pub atomicRequest : Around → Train → BoxPlan → SwitchBox → Request → Effect
 atomicRequest v r p x q =
-    unless (first (requestRows v r q ++ boxRows v p x q)) (Changed 0 (withHolding v r q) (granted v p x q))
+    unless (first (requestRows v r q ++ boxRows v p x q))
+    (Changed 0 (cond (givesBack q) (withoutHolding v r (holding q)) (withHolding v r (holding q))) (granted v p x q))
 
 -- An atomic step: a request at its box, or a move as kind 5 or 6 has it. What is stopped has a code other than 0 and changes nothing.
 unfoldable pub atomicStep : Line → Step → Outcome
@@ -65,7 +66,9 @@ atomicStep l s =
     apply l i b
     (cond (eqb (s .kind) 1) (atomicRequest v r p x (Reserve (s .box)))
     (cond (eqb (s .kind) 2) (atomicRequest v r p x (Lock (s .box)))
-    (cond (eqb (s .kind) 5) (enter v r x) (cond (eqb (s .kind) 6) (clear v r p x) (Refused 13)))))
+    (cond (eqb (s .kind) 7) (atomicRequest v r p x (GiveBack (s .box)))
+    (cond (eqb (s .kind) 8) (atomicRequest v r p x (Unlock (s .box)))
+    (cond (eqb (s .kind) 5) (enter v r x) (cond (eqb (s .kind) 6) (clear v r p x) (Refused 13)))))))
 
 -- Some atomic step was stopped.
 unfoldable pub stopped : List Event → Bool

@@ -2,7 +2,7 @@
 -- to it, and of the routes in force.
 use Prim.Native.Nat.{ℕ, _+_, _<_}
 use mathlib.Core.Path.{_≡_}
-use mathlib.Core.Bool.{true, false, _||_}
+use mathlib.Core.Bool.{true, false, cond, _||_}
 use mathlib.Core.List.{List}
 use lib.ListN.{length}
 use Rattle.rules.specs.declared.Table.{Table}
@@ -15,8 +15,8 @@ use Rattle.rules.specs.declared.Line.{Line}
 use Rattle.rules.specs.Rows.{listOf}
 use Rattle.rules.specs.Track.{planAt, routeAt, trackOf, farBox, nearBox, isPoint, joins}
 use Rattle.rules.specs.declared.Around.{Around}
-use Rattle.rules.specs.Line.{aroundTrain, around, boxAt, trainAt, holderOf}
-use Rattle.rules.specs.Steps.{recorded, withMessage, heard}
+use Rattle.rules.specs.Line.{around, boxAt, trainAt, holderOf}
+use Rattle.rules.specs.Steps.{holding, givesBack, recorded, withMessage, withHolding, heard}
 use Rattle.rules.specs.Record.{recordFault}
 use Rattle.rules.specs.Safety.{TrainOf, Covers, Crosses, placeIn, placeOf}
 
@@ -26,18 +26,36 @@ settledBy v r Idle = r
 settledBy v r (Sent q) = withMessage r Idle
 settledBy v r (Answered q c) = heard v r q c
 
-unfoldable pub settledTrain : Table → List ℕ → ℕ → Train → Train
-settledTrain t routes i r = settledBy (aroundTrain t routes i r) r (r .message)
+unfoldable pub settledTrain : Around → Train → Train
+settledTrain v r = settledBy v r (r .message)
 
--- The line with every train settled. Its boxes are as they were.
-unfoldable pub settled : Line → Line
-settled l =
+-- The same, but that what a train gives back counts as recorded until the box has answered: its record on the atomic line.
+unfoldable pub believedBy : Around → Train → Message → Train
+believedBy v r Idle = r
+believedBy v r (Sent q) =
+    let gone = withMessage r Idle in
+    cond (givesBack q) (withHolding v gone (holding q)) gone
+believedBy v r (Answered q c) = heard v r q c
+
+unfoldable pub believedTrain : Around → Train → Train
+believedTrain v r = believedBy v r (r .message)
+
+-- The line with every train changed by what stands around it. Its boxes are as they were.
+unfoldable pub withTrains : (Around → Train → Train) → Line → Line
+withTrains f l =
     record {
       table = l .table;
       boxes = l .boxes;
-      trains = listOf (length (l .trains)) (λ i. settledTrain (l .table) (l .routes) i (trainAt l i));
+      trains = listOf (length (l .trains)) (λ i. f (around l i) (trainAt l i));
       routes = l .routes;
     }
+
+-- The line with every train settled, and as the atomic line has it.
+abbrev pub settled : Line → Line
+settled = withTrains settledTrain
+
+abbrev pub believed : Line → Line
+believed = withTrains believedTrain
 
 -- Train i by its record r, its route in `routes`.
 module _ (t : Table) (routes : List ℕ) (i : ℕ) (r : Train) where
@@ -124,6 +142,6 @@ pub record Invariant (l : Line) : Type 0 where
   -- No open message concerns what is recorded.
   pub unrecorded
       : (i : ℕ) → TrainOf (l .table) i → (q : Request) → Open q (trainAt l i .message)
-      → recorded (around l i) (trainAt l i) q ≡ false
+      → recorded (around l i) (trainAt l i) (holding q) ≡ false
   -- With each yes on its way taken as heard, trains and boxes fit together.
   pub fitting : Fitting (settled l)

@@ -9,7 +9,7 @@ use Rattle.rules.specs.declared.TrainPlan.{TrainPlan}
 use Rattle.rules.specs.declared.Table.{Table}
 use Rattle.rules.specs.declared.SwitchBox.{SwitchBox}
 use Rattle.rules.specs.declared.Request.{Request}
-use Rattle.rules.specs.declared.Request.the-variants.{Reserve, Lock}
+use Rattle.rules.specs.declared.Request.the-variants.{Reserve, Lock, GiveBack, Unlock}
 use Rattle.rules.specs.declared.Message.{Message}
 use Rattle.rules.specs.declared.Message.the-variants.{Idle, Sent, Answered}
 use Rattle.rules.specs.declared.Train.{Train}
@@ -24,10 +24,14 @@ use Rattle.rules.specs.File.{fileCode, fileRefusal, decode}
 unfoldable pub requestKind : Request → ℕ
 requestKind (Reserve b) = 1
 requestKind (Lock b) = 2
+requestKind (GiveBack b) = 7
+requestKind (Unlock b) = 8
 
 unfoldable pub requestBox : Request → ℕ
 requestBox (Reserve b) = b
 requestBox (Lock b) = b
+requestBox (GiveBack b) = b
+requestBox (Unlock b) = b
 
 -- The numbers of a message's cases: its state (0 none, 1 sent, 2 answered), the kind and box of its request, and the answer's
 -- code; 0 for what a case does not have.

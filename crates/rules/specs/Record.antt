@@ -4,7 +4,7 @@ use mathlib.Core.Bool.{Bool, false, cond, not, _||_}
 use mathlib.Core.List.{List}
 use lib.Dec.{eqb, ltb}
 use Rattle.rules.specs.declared.Request.{Request}
-use Rattle.rules.specs.declared.Request.the-variants.{Reserve, Lock}
+use Rattle.rules.specs.declared.Request.the-variants.{Reserve, Lock, GiveBack, Unlock}
 use Rattle.rules.specs.declared.Message.{Message}
 use Rattle.rules.specs.declared.Message.the-variants.{Idle, Sent, Answered}
 use Rattle.rules.specs.declared.BoxPlan.{BoxPlan}
@@ -23,6 +23,8 @@ use Rattle.rules.specs.Steps.{Step, addressRows, mostCovered, step}
 unfoldable pub answerCode : Request → ℕ → Bool
 answerCode (Reserve b) c = eqb c 0 || eqb c 22
 answerCode (Lock b) c = eqb c 0 || eqb c 23 || eqb c 24 || eqb c 25
+answerCode (GiveBack b) c = eqb c 0
+answerCode (Unlock b) c = eqb c 0
 
 -- A request that 16 or 17 would stop.
 unfoldable pub addressFault : Around → Train → Request → Bool

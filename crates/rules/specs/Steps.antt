@@ -6,8 +6,10 @@ use mathlib.Core.List.{List, [], _∷_, _++_}
 use lib.Dec.{eqb, leb}
 use Rattle.rules.specs.declared.BoxPlan.{BoxPlan}
 use Rattle.rules.specs.declared.SwitchBox.{SwitchBox}
+use Rattle.rules.specs.declared.Holding.{Holding}
+use Rattle.rules.specs.declared.Holding.the-variants.{NextAt, LockAt}
 use Rattle.rules.specs.declared.Request.{Request}
-use Rattle.rules.specs.declared.Request.the-variants.{Reserve, Lock}
+use Rattle.rules.specs.declared.Request.the-variants.{Reserve, Lock, GiveBack, Unlock}
 use Rattle.rules.specs.declared.Message.{Message}
 use Rattle.rules.specs.declared.Message.the-variants.{Idle, Sent, Answered}
 use Rattle.rules.specs.declared.Train.{Train}
@@ -81,26 +83,46 @@ isOpen Idle = false
 isOpen (Sent q) = true
 isOpen (Answered q c) = true
 
--- Kinds 1 and 2: the request may be made at its box. A reservation: at an end of next. A lock: at the box ahead, a point.
-unfoldable pub addressed : Around → Request → Bool
-addressed v (Reserve b) = eqb b (v .nearEnd) || eqb b (v .farEnd)
-addressed v (Lock b) = eqb b (v .ahead) && v .point
+-- What a request is about, and whether it gives that back (kinds 7 and 8) or asks for it (kinds 1 and 2).
+unfoldable pub holding : Request → Holding
+holding (Reserve b) = NextAt b
+holding (Lock b) = LockAt b
+holding (GiveBack b) = NextAt b
+holding (Unlock b) = LockAt b
 
--- What is asked for is recorded already.
-unfoldable pub recorded : Around → Train → Request → Bool
-recorded v r (Reserve b) = (eqb b (v .nearEnd) && r .near) || (eqb b (v .farEnd) && r .far)
-recorded v r (Lock b) = r .lock
+unfoldable pub givesBack : Request → Bool
+givesBack (Reserve b) = false
+givesBack (Lock b) = false
+givesBack (GiveBack b) = true
+givesBack (Unlock b) = true
+
+-- A request about it may be made at its box. A reservation: at an end of next. A lock: at the box ahead, a point.
+unfoldable pub addressed : Around → Holding → Bool
+addressed v (NextAt b) = eqb b (v .nearEnd) || eqb b (v .farEnd)
+addressed v (LockAt b) = eqb b (v .ahead) && v .point
+
+-- The train has recorded it.
+unfoldable pub recorded : Around → Train → Holding → Bool
+recorded v r (NextAt b) = (eqb b (v .nearEnd) && r .near) || (eqb b (v .farEnd) && r .far)
+recorded v r (LockAt b) = r .lock
 
 -- There is no next segment.
 unfoldable pub atEnd : Train → Bool
 atEnd r = leb (r .length) (r .place)
 
--- Row Train, kinds 1 and 2. Its codes 16 and 17 stand by themselves for the record check.
+-- Row Train, kinds 1, 2, 7 and 8. Its codes 16 and 17 stand by themselves for the record check.
 unfoldable pub addressRows : Around → Train → Request → List Row
-addressRows v r q = 16 if atEnd r ∷ 17 if not (addressed v q) ∷ []
+addressRows v r q = 16 if atEnd r ∷ 17 if not (addressed v (holding q)) ∷ []
+
+-- Its last code: what is asked for is recorded already, or what is given back is not recorded.
+unfoldable pub recordRows : Around → Train → Request → List Row
+recordRows v r q =
+    18 if (not (givesBack q) && recorded v r (holding q))
+    ∷ 29 if (givesBack q && not (recorded v r (holding q)))
+    ∷ []
 
 unfoldable pub requestRows : Around → Train → Request → List Row
-requestRows v r q = 15 if isOpen (r .message) ∷ addressRows v r q ++ (18 if recorded v r q ∷ [])
+requestRows v r q = 15 if isOpen (r .message) ∷ addressRows v r q ++ recordRows v r q
 
 -- Row Train, kind 5 and kind 6.
 unfoldable pub enterRows : Around → Train → List Row
@@ -114,14 +136,18 @@ clearRows r = 20 if leb (r .covered) 1 ∷ []
 unfoldable pub another : ℕ → ℕ → Bool
 another i holder = not (eqb holder 0) && not (eqb holder i)
 
--- Row Box, for the box asked.
-unfoldable pub boxRows : Around → BoxPlan → SwitchBox → Request → List Row
-boxRows v p x (Reserve b) = 22 if another (v .number) (holderOf p x (v .next)) ∷ []
-boxRows v p x (Lock b) =
+-- Row Box, for what is asked for.
+unfoldable pub grantRows : Around → BoxPlan → SwitchBox → Holding → List Row
+grantRows v p x (NextAt b) = 22 if another (v .number) (holderOf p x (v .next)) ∷ []
+grantRows v p x (LockAt b) =
     23 if x .sensor
     ∷ 24 if another (v .number) (x .lock)
     ∷ 25 if not (eqb (holderOf p x (v .front)) (v .number) && eqb (holderOf p x (v .next)) (v .number))
     ∷ []
+
+-- Row Box, for the box of a request: what gives back is always answered yes.
+unfoldable pub boxRows : Around → BoxPlan → SwitchBox → Request → List Row
+boxRows v p x q = cond (givesBack q) [] (grantRows v p x (holding q))
 
 -- The position of a point that joins two segments, one of which is its stem.
 unfoldable pub positionFor : BoxPlan → ℕ → ℕ → ℕ
@@ -139,15 +165,46 @@ lockGiven v p x =
       right = x .right;
     }
 
--- The box after its yes. A reservation: the holder of next is set. A lock: it is given to the train.
-unfoldable pub granted : Around → BoxPlan → SwitchBox → Request → SwitchBox
-granted v p x (Reserve b) = setHolder p x (v .next) (v .number)
-granted v p x (Lock b) = lockGiven v p x
+-- A point whose lock is free.
+abbrev pub lockFreed : SwitchBox → SwitchBox
+lockFreed x =
+    record {
+      sensor = x .sensor;
+      position = x .position;
+      lock = 0;
+      stem = x .stem;
+      left = x .left;
+      right = x .right;
+    }
 
--- The train after it has recorded what it asked for.
-unfoldable pub withHolding : Around → Train → Request → Train
-withHolding v r (Reserve b) = withRecords r (eqb b (v .nearEnd) || r .near) (eqb b (v .farEnd) || r .far) (r .lock)
-withHolding v r (Lock b) = withRecords r (r .near) (r .far) true
+-- The box has it for the train.
+unfoldable pub stands : Around → BoxPlan → SwitchBox → Holding → Bool
+stands v p x (NextAt b) = eqb (holderOf p x (v .next)) (v .number)
+stands v p x (LockAt b) = eqb (x .lock) (v .number)
+
+-- The box once it is the train's, and once it is free. A reservation: the holder of next. A lock: with the position.
+unfoldable pub given : Around → BoxPlan → SwitchBox → Holding → SwitchBox
+given v p x (NextAt b) = setHolder p x (v .next) (v .number)
+given v p x (LockAt b) = lockGiven v p x
+
+unfoldable pub freed : Around → BoxPlan → SwitchBox → Holding → SwitchBox
+freed v p x (NextAt b) = setHolder p x (v .next) 0
+freed v p x (LockAt b) = lockFreed x
+
+-- The box after its yes: what is asked for is the train's; what is given back is free, if it was the train's.
+unfoldable pub granted : Around → BoxPlan → SwitchBox → Request → SwitchBox
+granted v p x q =
+    cond (givesBack q) (cond (stands v p x (holding q)) (freed v p x (holding q)) x) (given v p x (holding q))
+
+-- The train after it has recorded it, and after it has dropped the record.
+unfoldable pub withHolding : Around → Train → Holding → Train
+withHolding v r (NextAt b) = withRecords r (eqb b (v .nearEnd) || r .near) (eqb b (v .farEnd) || r .far) (r .lock)
+withHolding v r (LockAt b) = withRecords r (r .near) (r .far) true
+
+unfoldable pub withoutHolding : Around → Train → Holding → Train
+withoutHolding v r (NextAt b) =
+    withRecords r (not (eqb b (v .nearEnd)) && r .near) (not (eqb b (v .farEnd)) && r .far) (r .lock)
+withoutHolding v r (LockAt b) = withRecords r (r .near) (r .far) false
 
 -- The train after it has entered next: nothing is recorded of the segment that is next now.
 unfoldable pub entered : Train → Train
@@ -192,9 +249,13 @@ unfoldable pub unless : ℕ → Effect → Effect
 unless c e = cond (eqb c 0) e (Refused c)
 
 -- The kinds of steps, each by the train's record r, what stands around it, v, and the plan p and the record x of the box that the
--- step concerns. Kinds 1, 2 and 4 concern none, and hand x through. Kinds 1 and 2: the message is sent.
+-- step concerns. Kinds 1, 2, 4, 7 and 8 concern none, and hand x through. Kinds 1, 2, 7 and 8: the message is sent, and what is given
+-- back is no longer recorded.
+unfoldable pub asking : Around → Train → Request → Train
+asking v r q = withMessage (cond (givesBack q) (withoutHolding v r (holding q)) r) (Sent q)
+
 unfoldable pub send : Around → Train → SwitchBox → Request → Effect
-send v r x q = unless (first (requestRows v r q)) (Changed 0 (withMessage r (Sent q)) x)
+send v r x q = unless (first (requestRows v r q)) (Changed 0 (asking v r q) x)
 
 -- Kind 3: the box answers a message that is sent. A no leaves the box as it was.
 unfoldable pub reply : Around → Train → BoxPlan → SwitchBox → Request → Effect
@@ -207,11 +268,11 @@ boxAnswers v r p x Idle = Refused 21
 boxAnswers v r p x (Sent q) = reply v r p x q
 boxAnswers v r p x (Answered q c) = Refused 21
 
--- The train after it has heard an answer: a yes is recorded, and the message is gone.
+-- The train after it has heard an answer: a yes to what it asked for is recorded, and the message is gone.
 unfoldable pub heard : Around → Train → Request → ℕ → Train
 heard v r q c =
     let gone = withMessage r Idle in
-    cond (eqb c 0) (withHolding v gone q) gone
+    cond (eqb c 0 && not (givesBack q)) (withHolding v gone (holding q)) gone
 
 -- Kind 4: the train hears an answer that is on its way, with the answer's code.
 unfoldable pub trainHears : Around → Train → SwitchBox → Message → Effect
@@ -226,9 +287,10 @@ enter v r x = unless (first (enterRows v r)) (Changed 0 (entered r) (sensed x))
 unfoldable pub clear : Around → Train → BoxPlan → SwitchBox → Effect
 clear v r p x = unless (first (clearRows r)) (Changed 0 (cleared r) (released p x (v .tail) (v .second)))
 
--- There is such a step: kinds 1 and 2 have a box byte, kinds 3 to 6 have none, and there is no other kind.
+-- There is such a step: kinds 1, 2, 7 and 8 have a box byte, kinds 3 to 6 have none, and there is no other kind.
 unfoldable pub formed : ℕ → ℕ → Bool
-formed kind box = (leb 1 kind && leb kind 2) || (leb 3 kind && leb kind 6 && eqb box 0)
+formed kind box =
+    (leb 1 kind && leb kind 2) || (leb 3 kind && leb kind 6 && eqb box 0) || (leb 7 kind && leb kind 8)
 
 -- Row Step. Its code 13, which comes before the train is looked for, stands by itself.
 unfoldable pub formRows : ℕ → ℕ → List Row
@@ -242,11 +304,13 @@ unfoldable pub concernedBox : ℕ → Around → Train → ℕ
 concernedBox kind v r =
     cond (eqb kind 3) (messageBox (r .message)) (cond (eqb kind 5) (v .ahead) (cond (eqb kind 6) (v .passed) 0))
 
--- The kinds that are the train's alone, 1, 2 and 4; there is no other.
+-- The kinds that are the train's alone, 1, 2, 4, 7 and 8; there is no other.
 unfoldable pub alone : ℕ → ℕ → Around → Train → SwitchBox → Effect
 alone kind box v r x =
     cond (eqb kind 1) (send v r x (Reserve box))
-    (cond (eqb kind 2) (send v r x (Lock box)) (cond (eqb kind 4) (trainHears v r x (r .message)) (Refused 13)))
+    (cond (eqb kind 2) (send v r x (Lock box))
+    (cond (eqb kind 4) (trainHears v r x (r .message))
+    (cond (eqb kind 7) (send v r x (GiveBack box)) (cond (eqb kind 8) (send v r x (Unlock box)) (Refused 13)))))
 
 -- What a step does, by its kind. That kinds 3 to 6 have no box byte is row Step's affair.
 unfoldable pub effect : ℕ → ℕ → Around → Train → BoxPlan → SwitchBox → Effect

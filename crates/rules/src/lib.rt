@@ -47,10 +47,19 @@ pub struct SwitchBox {
     pub right: u8,
 }
 
-// What a train asks a box for, with the box's number: a reservation of the train's next segment (kind 1), or the lock (kind 2).
+// What a train may hold at the box with this number: the reservation of its next segment, or the lock.
+pub enum Holding {
+    NextAt(u8),
+    LockAt(u8),
+}
+
+// What a train asks of a box, with the box's number: a reservation of the train's next segment (kind 1), the lock (kind 2); and to
+// take back that reservation (kind 7) or the lock (kind 8).
 pub enum Request {
     Reserve(u8),
     Lock(u8),
+    GiveBack(u8),
+    Unlock(u8),
 }
 
 // A train's one message: none, a request under way to its box, or the box's answer under way back, with its code.

@@ -34,6 +34,8 @@ pub mod Steps
 pub mod StepKinds
 -- What the rows of codes of a step say.
 pub mod StepRows
+-- What a train has recorded, where it records a holding and where it drops the record.
+pub mod Holdings
 -- Trains and boxes that fit together, and what a change of one train and one box must observe; then a granted request, Enter and
 -- Clear, on a line without messages.
 pub mod Change

@@ -1,19 +1,20 @@
--- The line with every yes on its way taken as heard: its trains, and what putting back a train and a box makes of it.
+-- A line with its trains' messages taken away, as the settled line and the atomic line have it: its trains, and what putting back a
+-- train and a box makes of it.
 use Prim.Native.Nat.{ℕ, zero, suc, _+_, _≤_, _<_}
 use mathlib.Core.Path.{_≡_, refl, sym, _∙_, ap}
-use mathlib.Core.Logic.{_≢_}
+use mathlib.Core.Bool.{Bool, true, false, cond, not, _&&_}
 use mathlib.Core.List.{List}
 use native.Mathlib.Decide.{ℕ-discrete, decLt}
 use native.Mathlib.Numerals.{add-one}
 use native.Mathlib.Omega.{arith}
-use borrow.Author.Tests.{ne-eqb}
-use lib.Dec.{eqb, eqb·suc-zero}
+use lib.Dec.{eqb}
 use lib.ListN.{length, getD, set, length-set, List·getD-eq-default}
 use lib.Seq.{ext-getD, getD-set-same, getD-set-other}
 use Rattle.rules.specs.declared.Table.{Table}
 use Rattle.rules.specs.declared.SwitchBox.{SwitchBox}
+use Rattle.rules.specs.declared.Holding.{Holding}
+use Rattle.rules.specs.declared.Holding.the-variants.{NextAt, LockAt}
 use Rattle.rules.specs.declared.Request.{Request}
-use Rattle.rules.specs.declared.Request.the-variants.{Reserve, Lock}
 use Rattle.rules.specs.declared.Message.{Message}
 use Rattle.rules.specs.declared.Message.the-variants.{Idle, Sent, Answered}
 use Rattle.rules.specs.declared.Train.{Train}
@@ -21,8 +22,8 @@ use Rattle.rules.specs.declared.Line.{Line}
 use Rattle.rules.specs.Rows.{nth, setNth, listOf}
 use Rattle.rules.specs.declared.Around.{Around}
 use Rattle.rules.specs.Line.{noTrain, aroundOn, aroundTrain, around, boxAt, trainAt, putTrain, putBox}
-use Rattle.rules.specs.Steps.{withMessage, withHolding, heard, entered, cleared}
-use Rattle.rules.specs.Invariant.{settledBy, settledTrain, settled, Invariant}
+use Rattle.rules.specs.Steps.{holding, givesBack, withMessage, withHolding, withoutHolding, asking, heard, cleared}
+use Rattle.rules.specs.Invariant.{settledBy, settledTrain, believedBy, believedTrain, withTrains, Invariant}
 use Rattle.rules.proofs.Tests.{cond-each}
 use Rattle.rules.proofs.Rows.{list-length, list-at, list-same, list-all}
 use Rattle.rules.proofs.Frames.{put, Sized, train-back}
@@ -85,143 +86,172 @@ pub around-alike : (t : Table) (routes : List ℕ) (i : ℕ) {r x : Train} → A
 unfolding aroundOn
 around-alike t routes i h = rw (h .direction, h .place, h .covered)
 
--- What holds of a train after a yes and after a no holds of it once it has heard its answer.
-each-answer
-    : (P : Train → Type 0) (v : Around) (r : Train) (q : Request) (c : ℕ)
-    → P (withHolding v (withMessage r Idle) q) → P (withMessage r Idle) → P (heard v r q c)
-unfolding heard
-each-answer P v r q c h k = cond-each P (eqb c 0) _ _ (λ _. h) (λ _. k)
-
--- What a train keeps with another message, when it records a holding, and when it hears an answer.
+-- What a train keeps with another message, when it records a holding or drops the record, when it sends, and when it hears an answer.
 pub message-alike : (r : Train) (g : Message) → Alike (withMessage r g) r
 unfolding withMessage
 message-alike r g = record { direction = refl; length = refl; place = refl; covered = refl }
 
-holding-alike : (v : Around) {r x : Train} (q : Request) → Alike r x → Alike (withHolding v r q) x
+holding-alike : (v : Around) {r x : Train} (h : Holding) → Alike r x → Alike (withHolding v r h) x
 unfolding withHolding
-holding-alike v (Reserve b) h = record { direction = h .direction; length = h .length; place = h .place; covered = h .covered }
-holding-alike v (Lock b) h = record { direction = h .direction; length = h .length; place = h .place; covered = h .covered }
+holding-alike v (NextAt b) h = record { direction = h .direction; length = h .length; place = h .place; covered = h .covered }
+holding-alike v (LockAt b) h = record { direction = h .direction; length = h .length; place = h .place; covered = h .covered }
 
-holding-message : (v : Around) (r : Train) (q : Request) → withHolding v r q .message ≡ r .message
+without-alike : (v : Around) (r : Train) (h : Holding) → Alike (withoutHolding v r h) r
+unfolding withoutHolding
+without-alike v r (NextAt b) = record { direction = refl; length = refl; place = refl; covered = refl }
+without-alike v r (LockAt b) = record { direction = refl; length = refl; place = refl; covered = refl }
+
+holding-message : (v : Around) (r : Train) (h : Holding) → withHolding v r h .message ≡ r .message
 unfolding withHolding
-holding-message v r (Reserve b) = refl
-holding-message v r (Lock b) = refl
+holding-message v r (NextAt b) = refl
+holding-message v r (LockAt b) = refl
+
+pub asking-alike : (v : Around) (r : Train) (q : Request) → Alike (asking v r q) r
+unfolding asking withMessage
+asking-alike v r q = by (givesBack q)
+  where
+    by : (b : Bool) → Alike (withMessage (cond b (withoutHolding v r (holding q)) r) (Sent q)) r
+    by true = let h = without-alike v r (holding q) in record { direction = h .direction; length = h .length; place = h .place; covered = h .covered }
+    by false = message-alike r (Sent q)
+
+-- What holds of a train after a yes and after a no holds of it once it has heard its answer.
+each-answer
+    : (P : Train → Type 0) (v : Around) (r : Train) (q : Request) (c : ℕ)
+    → P (withHolding v (withMessage r Idle) (holding q)) → P (withMessage r Idle) → P (heard v r q c)
+unfolding heard
+each-answer P v r q c h k = cond-each P (eqb c 0 && not (givesBack q)) _ _ (λ _. h) (λ _. k)
 
 pub heard-alike : (v : Around) (r : Train) (q : Request) (c : ℕ) → Alike (heard v r q c) r
 heard-alike v r q c =
     let gone = message-alike r Idle in
-    each-answer (λ x. Alike x r) v r q c (holding-alike v q gone) gone
+    each-answer (λ x. Alike x r) v r q c (holding-alike v (holding q) gone) gone
 
 pub heard-message : (v : Around) (r : Train) (q : Request) (c : ℕ) → heard v r q c .message ≡ Idle
 unfolding withMessage
-heard-message v r q c = each-answer (λ x. x .message ≡ Idle) v r q c (holding-message _ _ q) refl
+heard-message v r q c = each-answer (λ x. x .message ≡ Idle) v r q c (holding-message _ _ (holding q)) refl
 
--- A train clears its tail before or after it hears an answer.
+-- A train clears its tail before or after its message is taken away, with or without a record of what the message is about.
+taken-cleared
+    : (v w : Around) → v .nearEnd ≡ w .nearEnd → v .farEnd ≡ w .farEnd → (r : Train) (h : Holding) (b : Bool)
+    → cond b (withHolding v (withMessage (cleared r) Idle) h) (withMessage (cleared r) Idle)
+    ≡ cleared (cond b (withHolding w (withMessage r Idle) h) (withMessage r Idle))
+unfolding withMessage withHolding cleared
+taken-cleared v w near far r (NextAt b) true = rw (near, far)
+taken-cleared v w near far r (LockAt b) true = refl
+taken-cleared v w near far r h false = refl
+
 heard-cleared : (v w : Around) → v .nearEnd ≡ w .nearEnd → v .farEnd ≡ w .farEnd → (r : Train) (q : Request) (c : ℕ)
     → heard v (cleared r) q c ≡ cleared (heard w r q c)
-unfolding heard withMessage withHolding cleared
-heard-cleared v w near far r (Reserve b) zero = rw (near, far)
-heard-cleared v w near far r (Lock b) zero = refl
-heard-cleared v w near far r q (suc c) = rw eqb·suc-zero
+unfolding heard
+heard-cleared v w near far r q c = taken-cleared v w near far r (holding q) (eqb c 0 && not (givesBack q))
 
--- A train without a message is settled, and a request that is sent is only taken away.
-pub settled-idle : (t : Table) (routes : List ℕ) (i : ℕ) (r : Train) → r .message ≡ Idle → settledTrain t routes i r ≡ r
-unfolding settledTrain settledBy
-settled-idle t routes i r e = rw e
+-- A way of taking a train's message away: the train stays where it stands, and as it is without a message; what it asks for is not
+-- recorded before a yes is on its way, which counts as heard; and it may clear its tail before or after.
+pub record Quiets (f : Around → Train → Train) : Type 0 where
+  pub alike : (v : Around) (r : Train) → Alike (f v r) r
+  pub idle : (v : Around) (r : Train) → r .message ≡ Idle → f v r ≡ r
+  pub asked
+      : (v : Around) (r : Train) (q : Request) → givesBack q ≡ false → r .message ≡ Sent q → f v r ≡ withMessage r Idle
+  pub heard : (v : Around) (r : Train) (q : Request) (c : ℕ) → r .message ≡ Answered q c → f v r ≡ heard v r q c
+  pub clears
+      : (v w : Around) → v .nearEnd ≡ w .nearEnd → v .farEnd ≡ w .farEnd → (r : Train) → f v (cleared r) ≡ cleared (f w r)
 
-pub settled-sent : (t : Table) (routes : List ℕ) (i : ℕ) (r : Train) (q : Request) → r .message ≡ Sent q
-    → settledTrain t routes i r ≡ withMessage r Idle
-unfolding settledTrain settledBy
-settled-sent t routes i r q e = ap (settledBy (aroundTrain t routes i r) r) e
+-- The settled line's way.
+settled-alike : (v : Around) (r : Train) (g : Message) → Alike (settledBy v r g) r
+unfolding settledBy
+settled-alike v r Idle = record { direction = refl; length = refl; place = refl; covered = refl }
+settled-alike v r (Sent q) = message-alike r Idle
+settled-alike v r (Answered q c) = heard-alike v r q c
 
--- Train i by its record r, its route in `routes`, once settled.
-module _ (t : Table) (routes : List ℕ) (i : ℕ) (r : Train) where
-  settled-alike : Alike (settledTrain t routes i r) r
-  unfolding settledTrain settledBy
-  settled-alike = go (r .message)
-    where
-      go : (g : Message) → Alike (settledBy (aroundTrain t routes i r) r g) r
-      go Idle = record { direction = refl; length = refl; place = refl; covered = refl }
-      go (Sent q) = message-alike r Idle
-      go (Answered q c) = heard-alike _ r q c
+settled-clears
+    : (v w : Around) → v .nearEnd ≡ w .nearEnd → v .farEnd ≡ w .farEnd → (r : Train) (g : Message)
+    → settledBy v (cleared r) g ≡ cleared (settledBy w r g)
+unfolding settledBy
+settled-clears v w near far r Idle = refl
+settled-clears v w near far r (Sent q) = taken-cleared v w near far r (holding q) false
+settled-clears v w near far r (Answered q c) = heard-cleared v w near far r q c
 
-  -- After the train's own part of a step: a request sent, denied, granted and heard, an Enter and a Clear.
-  pub settled-sends : (q : Request) → r .message ≡ Idle
-      → settledTrain t routes i (withMessage r (Sent q)) ≡ settledTrain t routes i r
-  unfolding settledTrain settledBy withMessage
-  settled-sends q e = rw e
+pub settling : Quiets settledTrain
+unfolding settledTrain settledBy cleared
+settling =
+    record {
+      alike = λ v r. settled-alike v r (r .message);
+      idle = λ v r e. ap (settledBy v r) e;
+      asked = λ v r q n e. ap (settledBy v r) e;
+      heard = λ v r q c e. ap (settledBy v r) e;
+      clears = λ v w near far r. settled-clears v w near far r (r .message);
+    }
 
-  pub settled-denied : (q : Request) (c : ℕ) → c ≢ 0 → r .message ≡ Sent q
-      → settledTrain t routes i (withMessage r (Answered q c)) ≡ settledTrain t routes i r
-  unfolding settledTrain settledBy withMessage heard
-  settled-denied q c n e = rw (e, ne-eqb c 0 n)
+-- The atomic line's way.
+believed-alike : (v : Around) (r : Train) (g : Message) → Alike (believedBy v r g) r
+unfolding believedBy
+believed-alike v r Idle = record { direction = refl; length = refl; place = refl; covered = refl }
+believed-alike v r (Sent q) =
+    let gone = message-alike r Idle in
+    cond-each (λ x. Alike x r) (givesBack q) _ _ (λ _. holding-alike v (holding q) gone) (λ _. gone)
+believed-alike v r (Answered q c) = heard-alike v r q c
 
-  pub settled-granted : (q : Request)
-      → settledTrain t routes i (withMessage r (Answered q 0)) ≡ withHolding (aroundTrain t routes i r) (withMessage r Idle) q
-  unfolding settledTrain settledBy withMessage heard aroundOn
-  settled-granted q = refl
+believed-clears
+    : (v w : Around) → v .nearEnd ≡ w .nearEnd → v .farEnd ≡ w .farEnd → (r : Train) (g : Message)
+    → believedBy v (cleared r) g ≡ cleared (believedBy w r g)
+unfolding believedBy
+believed-clears v w near far r Idle = refl
+believed-clears v w near far r (Sent q) = taken-cleared v w near far r (holding q) (givesBack q)
+believed-clears v w near far r (Answered q c) = heard-cleared v w near far r q c
 
-  pub settled-heard : (q : Request) (c : ℕ) → r .message ≡ Answered q c
-      → settledTrain t routes i (heard (aroundTrain t routes i r) r q c) ≡ settledTrain t routes i r
-  unfolding settledTrain settledBy
-  settled-heard q c e =
-      settled-idle t routes i _ (heard-message _ r q c) ∙ sym (ap (settledBy (aroundTrain t routes i r) r) e)
+pub believing : Quiets believedTrain
+unfolding believedTrain believedBy cleared
+believing =
+    record {
+      alike = λ v r. believed-alike v r (r .message);
+      idle = λ v r e. ap (believedBy v r) e;
+      asked = λ v r q n e. ap (believedBy v r) e ∙ rw n;
+      heard = λ v r q c e. ap (believedBy v r) e;
+      clears = λ v w near far r. believed-clears v w near far r (r .message);
+    }
 
-  pub settled-entered : r .message ≡ Idle → settledTrain t routes i (entered r) ≡ entered r
-  unfolding settledTrain settledBy entered
-  settled-entered e = rw e
+-- The line with all messages taken away so: its table, trains and boxes.
+module _ {f : Around → Train → Train} (k : Quiets f) (l : Line) where
+  pub table-quiet : withTrains f l .table ≡ l .table
+  unfolding withTrains
+  table-quiet = refl
 
-  pub settled-cleared : settledTrain t routes i (cleared r) ≡ cleared (settledTrain t routes i r)
-  unfolding settledTrain settledBy cleared withMessage aroundOn
-  settled-cleared = go (r .message)
-    where
-      go : (g : Message) → settledBy (aroundTrain t routes i (cleared r)) (cleared r) g ≡ cleared (settledBy (aroundTrain t routes i r) r g)
-      go Idle = refl
-      go (Sent q) = refl
-      go (Answered q c) = heard-cleared _ _ refl refl r q c
+  module _ (i : ℕ) where
+    pub train-quiet : trainAt (withTrains f l) i ≡ f (around l i) (trainAt l i)
+    unfolding withTrains trainAt around
+    train-quiet =
+        each-nth (λ j r. f (aroundTrain (l .table) (l .routes) j r) r) noTrain (λ j. k .idle _ noTrain refl) (l .trains) i
 
--- The table, the trains and the boxes of the settled line.
-pub table-settled : (l : Line) → settled l .table ≡ l .table
-unfolding settled
-table-settled l = refl
+    pub alike-quiet : Alike (trainAt (withTrains f l) i) (trainAt l i)
+    alike-quiet = rw train-quiet (k .alike _ (trainAt l i))
 
-module _ (l : Line) (i : ℕ) where
-  pub train-settled : trainAt (settled l) i ≡ settledTrain (l .table) (l .routes) i (trainAt l i)
-  unfolding settled trainAt
-  train-settled =
-      each-nth (settledTrain (l .table) (l .routes)) noTrain (λ j. settled-idle (l .table) (l .routes) j noTrain refl)
-      (l .trains) i
+    pub around-quiet : around (withTrains f l) i ≡ around l i
+    unfolding around withTrains
+    around-quiet = around-alike _ _ i alike-quiet
 
-  pub alike-settled : Alike (trainAt (settled l) i) (trainAt l i)
-  alike-settled = rw train-settled (settled-alike _ _ i (trainAt l i))
+    pub box-quiet : boxAt (withTrains f l) i ≡ boxAt l i
+    unfolding withTrains boxAt
+    box-quiet = refl
 
-  pub around-settled : around (settled l) i ≡ around l i
-  unfolding around settled
-  around-settled = around-alike _ _ i alike-settled
+    -- The line with train i, or train i and box b, put back.
+    module _ (r : Train) where
+      train-put-quiet : withTrains f (putTrain l i r) ≡ putTrain (withTrains f l) i (f (aroundTrain (l .table) (l .routes) i r) r)
+      unfolding withTrains putTrain trainAt around
+      train-put-quiet = rw (each-set (λ j z. f (aroundTrain (l .table) (l .routes) j z) z) noTrain (l .trains) i r)
 
-  pub box-settled : boxAt (settled l) i ≡ boxAt l i
-  unfolding settled boxAt
-  box-settled = refl
+      pub put-quiet : (b : ℕ) (x : SwitchBox)
+          → withTrains f (put l i r b x) ≡ put (withTrains f l) i (f (aroundTrain (l .table) (l .routes) i r) r) b x
+      unfolding withTrains putTrain putBox trainAt around
+      put-quiet b x = ap (λ (m : Line). putBox m b x) train-put-quiet
 
-  -- The line with train i, or train i and box b, put back.
-  module _ (r : Train) where
-    settled-train : settled (putTrain l i r) ≡ putTrain (settled l) i (settledTrain (l .table) (l .routes) i r)
-    unfolding settled putTrain trainAt
-    settled-train = rw (each-set (settledTrain (l .table) (l .routes)) noTrain (l .trains) i r)
+      pub same-quiet : f (aroundTrain (l .table) (l .routes) i r) r ≡ f (around l i) (trainAt l i)
+          → withTrains f (putTrain l i r) ≡ withTrains f l
+      same-quiet e = train-put-quiet ∙ rw (e, ← train-quiet) (train-back (withTrains f l) i)
 
-    pub settled-put : (b : ℕ) (x : SwitchBox)
-        → settled (put l i r b x) ≡ put (settled l) i (settledTrain (l .table) (l .routes) i r) b x
-    unfolding settled putTrain putBox trainAt
-    settled-put b x = ap (λ (m : Line). putBox m b x) settled-train
-
-    pub settled-quiet : settledTrain (l .table) (l .routes) i r ≡ settledTrain (l .table) (l .routes) i (trainAt l i)
-        → settled (putTrain l i r) ≡ settled l
-    settled-quiet e = settled-train ∙ rw (e, ← train-settled) (train-back (settled l) i)
-
--- A line on which no train has a message is settled.
-pub settled-line : (l : Line) → ((i : ℕ) → trainAt l i .message ≡ Idle) → settled l ≡ l
-unfolding settled trainAt
-settled-line l idle =
-    let trains = list-same (λ i. settledTrain (l .table) (l .routes) i (trainAt l i)) (λ i. trainAt l i) (length (l .trains))
-    (λ i h. settled-idle (l .table) (l .routes) (i + 1) (trainAt l (i + 1)) (idle (i + 1))) in
-    rw (trains, list-all (l .trains) noTrain)
+  -- Where no train has a message, it is the line itself.
+  pub line-quiet : ((i : ℕ) → trainAt l i .message ≡ Idle) → withTrains f l ≡ l
+  unfolding withTrains trainAt
+  line-quiet none =
+      let trains = list-same (λ i. f (around l i) (trainAt l i)) (λ i. trainAt l i) (length (l .trains))
+      (λ i h. k .idle (around l (i + 1)) (trainAt l (i + 1)) (none (i + 1))) in
+      rw (trains, list-all (l .trains) noTrain)

@@ -1,13 +1,15 @@
--- What each step is on the settled line.
+-- What each step is on the line with messages taken away, the settled one and the atomic one.
 use Prim.Native.Nat.{ℕ}
 use mathlib.Core.Path.{_≡_, refl, sym, _∙_, ap}
 use mathlib.Core.Logic.{_≢_}
 use mathlib.Core.Bool.{Bool, true, false, _&&_, _||_, false≢true}
 use mathlib.Core.List.{List}
+use borrow.Author.Tests.{ne-eqb}
 use lib.Dec.{eqb}
 use Rattle.rules.specs.declared.Table.{Table}
+use Rattle.rules.specs.declared.Holding.{Holding}
+use Rattle.rules.specs.declared.Holding.the-variants.{NextAt, LockAt}
 use Rattle.rules.specs.declared.Request.{Request}
-use Rattle.rules.specs.declared.Request.the-variants.{Reserve, Lock}
 use Rattle.rules.specs.declared.Message.{Message}
 use Rattle.rules.specs.declared.Message.the-variants.{Idle, Sent, Answered}
 use Rattle.rules.specs.declared.Train.{Train}
@@ -16,14 +18,15 @@ use Rattle.rules.specs.Rows.{first}
 use Rattle.rules.specs.Track.{planAt}
 use Rattle.rules.specs.declared.Around.{Around}
 use Rattle.rules.specs.Line.{aroundOn, aroundTrain, around, boxAt, trainAt, requestBox}
-use Rattle.rules.specs.Steps.{Step, addressed, recorded, addressRows, requestRows, boxRows, enterRows, clearRows, withMessage}
+use Rattle.rules.specs.Steps.{Step, holding, givesBack, addressed, recorded, atEnd, addressRows, requestRows, boxRows, enterRows, clearRows, withMessage, withHolding, granted, asking, heard, entered, cleared}
 use Rattle.rules.specs.Safety.{TrainOf}
-use Rattle.rules.specs.Invariant.{settled, Open, sent, answered, Invariant}
-use Rattle.rules.proofs.Tests.{or-left, and-true}
+use Rattle.rules.specs.Invariant.{withTrains, Open, sent, answered, Invariant}
+use Rattle.rules.proofs.Tests.{not-passed, or-left, and-true, first-none}
 use Rattle.rules.proofs.Sound.{open-address}
-use Rattle.rules.proofs.StepKinds.{afterRequest, afterMessage, afterGrant, afterHearing, afterEnter, afterClear, Sends, Answers, Hears, Enters, Clears}
+use Rattle.rules.proofs.Frames.{put}
+use Rattle.rules.proofs.StepKinds.{afterSending, afterRequest, afterMessage, afterGrant, afterHearing, afterEnter, afterClear, Sends, Answers, Hears, Enters, Clears}
 use Rattle.rules.proofs.StepRows.{address-same, recorded-same, address-iff, request-iff, lock-address-iff, enter-iff}
-use Rattle.rules.proofs.Settled.{line-sound, settled-sends, settled-denied, settled-granted, settled-heard, settled-entered, settled-cleared, settled-quiet, settled-put, settled-sent, settled-idle, table-settled, train-settled, alike-settled, around-settled, box-settled}
+use Rattle.rules.proofs.Settled.{line-sound, Alike, message-alike, heard-message, Quiets, table-quiet, train-quiet, alike-quiet, around-quiet, box-quiet, put-quiet, same-quiet}
 
 -- The request of an open message is one that 16 and 17 do not stop.
 pub addressed-open : {l : Line} → Invariant l → (i : ℕ) → TrainOf (l .table) i → (q : Request) → Open q (trainAt l i .message)
@@ -32,21 +35,20 @@ unfolding around
 addressed-open h i k q m = open-address (line-sound h .messages i k) m
 
 -- A train that may enter has recorded all that it may ask for.
-all-recorded : (v : Around) (r : Train) (q : Request) → first (enterRows v r) ≡ 0 → first (addressRows v r q) ≡ 0
-    → recorded v r q ≡ true
+all-recorded : (v : Around) (r : Train) (h : Holding) → first (enterRows v r) ≡ 0 → addressed v h ≡ true → recorded v r h ≡ true
 unfolding addressed recorded
-all-recorded v r q e f =
+all-recorded v r h e may =
     let (_, (_, (near, (far, lock)))) = enter-iff v r .0 e in
-    by q near far lock (address-iff v r q .0 f .1)
+    by h near far lock may
   where
     either : (a b x y : Bool) → (a || b) ≡ true → x ≡ true → y ≡ true → ((a && x) || (b && y)) ≡ true
     either true b x y e f g = or-left x (b && y) f
     either false b x y e f g = and-true b y e g
 
-    by : (q : Request) → r .near ≡ true → r .far ≡ true → (v .point ≡ true → r .lock ≡ true) → addressed v q ≡ true
-        → recorded v r q ≡ true
-    by (Reserve b) near far lock may = either (eqb b (v .nearEnd)) (eqb b (v .farEnd)) (r .near) (r .far) may near far
-    by (Lock b) near far lock may = lock (lock-address-iff v b .0 may .1)
+    by : (h : Holding) → r .near ≡ true → r .far ≡ true → (v .point ≡ true → r .lock ≡ true) → addressed v h ≡ true
+        → recorded v r h ≡ true
+    by (NextAt b) near far lock may = either (eqb b (v .nearEnd)) (eqb b (v .farEnd)) (r .near) (r .far) may near far
+    by (LockAt b) near far lock may = lock (lock-address-iff v b .0 may .1)
 
 -- So a train enters only where it has no message.
 pub enter-idle : {l : Line} {s : Step} → Invariant l → Enters l s → trainAt l (s .train) .message ≡ Idle
@@ -54,82 +56,130 @@ enter-idle {l} {s} h e = go (trainAt l (s .train) .message) refl
   where
     closed : (q : Request) → Open q (trainAt l (s .train) .message) → ⊥
     closed q m =
+        let (_, may) = address-iff _ _ q .0 (addressed-open h (s .train) (e .train) q m) in
         false≢true (
-        sym (h .unrecorded (s .train) (e .train) q m)
-        ∙ all-recorded (around l (s .train)) _ q (e .free) (addressed-open h (s .train) (e .train) q m))
+        sym (h .unrecorded (s .train) (e .train) q m) ∙ all-recorded (around l (s .train)) _ (holding q) (e .free) may)
 
     go : (g : Message) → trainAt l (s .train) .message ≡ g → g ≡ Idle
     go Idle m = refl
     go (Sent q) m = absurd (closed q (rw m sent))
     go (Answered q c) m = absurd (closed q (rw m answered))
 
--- A request that is sent can be made again once its message is gone.
+-- A train with another message has that message, and the same records; without a message it is as it was if it had none.
+message-now : (r : Train) (g : Message) → withMessage r g .message ≡ g
+unfolding withMessage
+message-now r g = refl
+
+gone-recorded : (v : Around) (r : Train) (h : Holding) → recorded v (withMessage r Idle) h ≡ recorded v r h
+unfolding recorded withMessage
+gone-recorded v r (NextAt b) = refl
+gone-recorded v r (LockAt b) = refl
+
+message-gone : (r : Train) → r .message ≡ Idle → withMessage r Idle ≡ r
+unfolding withMessage
+message-gone r e = rw (sym e)
+
+-- A request that is sent can be made again once its message is gone: one for what is not recorded, and a give-back of what is.
 request-free
-    : (t : Table) (routes : List ℕ) (i : ℕ) (r : Train) (q : Request) → first (addressRows (aroundTrain t routes i r) r q) ≡ 0
-    → recorded (aroundTrain t routes i r) r q ≡ false
-    → first (requestRows (aroundTrain t routes i r) (withMessage r Idle) q) ≡ 0
-unfolding aroundOn withMessage
-request-free t routes i r q e f =
-    request-iff (aroundTrain t routes i r) (withMessage r Idle) q .1
-    (refl, (ap first (address-same t routes i r (r .covered) Idle q) ∙ e, recorded-same t routes i r (r .covered) Idle q ∙ f))
+    : (t : Table) (routes : List ℕ) (i : ℕ) (r : Train) (q : Request) {x : Train}
+    → first (addressRows (aroundTrain t routes i r) r q) ≡ 0 → Alike x r → x .message ≡ Idle
+    → recorded (aroundTrain t routes i r) x (holding q) ≡ givesBack q
+    → first (requestRows (aroundTrain t routes i r) x q) ≡ 0
+unfolding addressRows atEnd
+request-free t routes i r q {x} e same idle f =
+    request-iff (aroundTrain t routes i r) x q .1 (idle, (rw (same .place, same .length) e, f))
 
-module _ {l : Line} {s : Step} where
-  -- A request sent, denied and heard leave the settled line as it is.
-  pub send-settled : {q : Request} → Sends l s q
-      → settled (afterMessage l (s .train) (Sent q)) ≡ settled l
-  send-settled {q} w =
-      settled-quiet l (s .train) _ (settled-sends _ _ (s .train) (trainAt l (s .train)) q (request-iff _ _ q .0 (w .free) .0))
+-- Only what is asked for is denied.
+pub denied-asks : {l : Line} {s : Step} {q : Request} {c : ℕ} → Answers l s q c → c ≢ 0 → givesBack q ≡ false
+unfolding boxRows
+denied-asks {q} w n = not-passed (givesBack q) λ e. n (sym (w .code) ∙ rw e first-none)
 
-  pub deny-settled : {q : Request} {c : ℕ} → Answers l s q c → c ≢ 0
-      → settled (afterMessage l (s .train) (Answered q c)) ≡ settled l
-  deny-settled {q} {c} w n =
-      settled-quiet l (s .train) _ (settled-denied _ _ (s .train) (trainAt l (s .train)) q c n (w .sent))
+-- With messages taken away in either way:
+module _ {f : Around → Train → Train} (k : Quiets f) where
+  -- A train with a yes on its way, and one that clears its tail.
+  granted-train : (t : Table) (routes : List ℕ) (i : ℕ) (r : Train) (q : Request)
+      → f (aroundTrain t routes i (withMessage r (Answered q 0))) (withMessage r (Answered q 0)) ≡ heard (aroundTrain t routes i r) r q 0
+  unfolding heard withMessage aroundOn
+  granted-train t routes i r q = k .heard _ (withMessage r (Answered q 0)) q 0 refl
 
-  pub hear-settled : {q : Request} {c : ℕ} → Hears l s q c
-      → settled (afterHearing l (s .train) q c) ≡ settled l
+  cleared-train : (t : Table) (routes : List ℕ) (i : ℕ) (r : Train)
+      → f (aroundTrain t routes i (cleared r)) (cleared r) ≡ cleared (f (aroundTrain t routes i r) r)
+  unfolding cleared aroundOn
+  cleared-train t routes i r = k .clears (aroundTrain t routes i (cleared r)) (aroundTrain t routes i r) refl refl r
+
+  -- The line after a grant: the train has heard the yes.
+  pub grant-line : (l : Line) (i : ℕ) (q : Request)
+      → withTrains f (afterGrant l i q)
+      ≡ put (withTrains f l) i (heard (around l i) (trainAt l i) q 0) (requestBox q)
+      (granted (around l i) (planAt (l .table) (requestBox q)) (boxAt l (requestBox q)) q)
   unfolding around
-  hear-settled {q} {c} w =
-      settled-quiet l (s .train) _ (settled-heard _ _ (s .train) (trainAt l (s .train)) q c (w .answer))
+  grant-line l i q = rw (put-quiet k, granted-train)
 
-  -- A request granted, an Enter and a Clear are on the settled line what they are as atomic steps, and no row stops them there.
-  pub grant-settled : {q : Request} → Answers l s q 0
-      → settled (afterGrant l (s .train) q) ≡ afterRequest (settled l) (s .train) q
+module _ {f : Around → Train → Train} (k : Quiets f) {l : Line} {s : Step} where
+  -- A request sent, denied and heard leave the line as it is.
+  pub send-quiet : {q : Request} → Sends l s q → givesBack q ≡ false → withTrains f (afterSending l (s .train) q) ≡ withTrains f l
+  unfolding asking withMessage
+  send-quiet {q} w n =
+      let r = trainAt l (s .train) in
+      let idle = request-iff _ _ q .0 (w .free) .0 in
+      rw n (same-quiet k l (s .train) _ (k .asked _ (withMessage r (Sent q)) q n refl ∙ message-gone r idle ∙ sym (k .idle _ r idle)))
+
+  pub deny-quiet : {q : Request} {c : ℕ} → Answers l s q c → c ≢ 0
+      → withTrains f (afterMessage l (s .train) (Answered q c)) ≡ withTrains f l
+  unfolding heard withMessage
+  deny-quiet {q} {c} w n =
+      let r = trainAt l (s .train) in
+      same-quiet k l (s .train) _
+      (k .heard _ (withMessage r (Answered q c)) q c refl ∙ rw (ne-eqb c 0 n) (sym (k .asked _ r q (denied-asks w n) (w .sent))))
+
+  pub hear-quiet : {q : Request} {c : ℕ} → Hears l s q c → withTrains f (afterHearing l (s .train) q c) ≡ withTrains f l
   unfolding around
-  grant-settled {q} w =
+  hear-quiet {q} {c} w =
+      let r = trainAt l (s .train) in
+      same-quiet k l (s .train) _ (k .idle _ _ (heard-message _ r q c) ∙ sym (k .heard _ r q c (w .answer)))
+
+  -- A request granted, an Enter and a Clear are there what they are as atomic steps, and no row stops them.
+  pub grant-quiet : {q : Request} → Answers l s q 0 → givesBack q ≡ false
+      → withTrains f (afterGrant l (s .train) q) ≡ afterRequest (withTrains f l) (s .train) q
+  unfolding heard
+  grant-quiet {q} w n =
       let i = s .train in
-      rw (settled-put, settled-granted, around-settled l i, box-settled, train-settled, settled-sent _ _ i (trainAt l i) q (w .sent), table-settled)
+      rw (grant-line k l i q, around-quiet k l i, box-quiet k, train-quiet k, k .asked _ (trainAt l i) q n (w .sent), table-quiet k, n)
 
   pub grant-answers : {q : Request} {c : ℕ} → Answers l s q c
       → first
-      (boxRows (around (settled l) (s .train)) (planAt (settled l .table) (requestBox q)) (boxAt (settled l) (requestBox q)) q)
+      (boxRows (around (withTrains f l) (s .train)) (planAt (withTrains f l .table) (requestBox q)) (boxAt (withTrains f l) (requestBox q)) q)
       ≡ c
-  grant-answers w = rw (around-settled, box-settled, table-settled) (w .code)
+  grant-answers w = rw (around-quiet k, box-quiet k, table-quiet k) (w .code)
 
-  pub clear-settled : Clears l s → settled (afterClear l (s .train)) ≡ afterClear (settled l) (s .train)
-  clear-settled w = rw (settled-put, settled-cleared, around-settled, box-settled, train-settled, table-settled)
+  pub clear-quiet : Clears l s → withTrains f (afterClear l (s .train)) ≡ afterClear (withTrains f l) (s .train)
+  unfolding around
+  clear-quiet w = rw (put-quiet k, cleared-train k, around-quiet k, box-quiet k, train-quiet k, table-quiet k)
 
-  pub clear-free : Clears l s → first (clearRows (trainAt (settled l) (s .train))) ≡ 0
+  pub clear-free : Clears l s → first (clearRows (trainAt (withTrains f l) (s .train))) ≡ 0
   unfolding clearRows
-  clear-free w = rw (alike-settled l (s .train) .covered) (w .free)
+  clear-free w = rw (alike-quiet k l (s .train) .covered) (w .free)
 
   module _ (h : Invariant l) where
-    pub grant-asks : {q : Request} → Answers l s q 0
-        → first (requestRows (around (settled l) (s .train)) (trainAt (settled l) (s .train)) q) ≡ 0
+    pub grant-asks : {q : Request} → Answers l s q 0 → givesBack q ≡ false
+        → first (requestRows (around (withTrains f l) (s .train)) (trainAt (withTrains f l) (s .train)) q) ≡ 0
     unfolding around
-    grant-asks {q} w =
+    grant-asks {q} w n =
         let i = s .train in
         let r = trainAt l i in
         let asked : Open q (r .message) = rw (w .sent) sent in
-        rw (around-settled l i, train-settled, settled-sent _ _ i r q (w .sent))
-        (request-free _ _ i r q (addressed-open h i (w .train) q asked) (h .unrecorded i (w .train) q asked))
+        rw (around-quiet k l i, train-quiet k, k .asked _ r q n (w .sent))
+        (request-free (l .table) (l .routes) i r q (addressed-open h i (w .train) q asked) (message-alike r Idle) (message-now r Idle)
+        (gone-recorded _ r (holding q) ∙ h .unrecorded i (w .train) q asked ∙ sym n))
 
-    pub enter-settled : Enters l s → settled (afterEnter l (s .train)) ≡ afterEnter (settled l) (s .train)
-    enter-settled w =
+    pub enter-quiet : Enters l s → withTrains f (afterEnter l (s .train)) ≡ afterEnter (withTrains f l) (s .train)
+    unfolding entered
+    enter-quiet w =
         let i = s .train in
         let idle = enter-idle h w in
-        rw (settled-put, settled-entered _ _ i (trainAt l i) idle, around-settled, box-settled, train-settled, settled-idle _ _ i (trainAt l i) idle)
+        rw (put-quiet k, k .idle _ (entered (trainAt l i)) idle, around-quiet k, box-quiet k, train-quiet k, k .idle _ (trainAt l i) idle)
 
-    pub enter-free : Enters l s → first (enterRows (around (settled l) (s .train)) (trainAt (settled l) (s .train))) ≡ 0
+    pub enter-free : Enters l s → first (enterRows (around (withTrains f l) (s .train)) (trainAt (withTrains f l) (s .train))) ≡ 0
     enter-free w =
         let i = s .train in
-        rw (around-settled, train-settled, settled-idle _ _ i (trainAt l i) (enter-idle h w)) (w .free)
+        rw (around-quiet k, train-quiet k, k .idle _ (trainAt l i) (enter-idle h w)) (w .free)

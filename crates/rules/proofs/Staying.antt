@@ -1,4 +1,4 @@
--- Kinds 1 to 4 leave a train where it stands.
+-- Kinds 1 to 4, 7 and 8 leave a train where it stands.
 use Prim.Native.Nat.{ℕ}
 use mathlib.Core.Path.{_≡_}
 use mathlib.Core.Bool.{Bool, true, false, cond}
@@ -6,7 +6,7 @@ use lib.Dec.{eqb}
 use Rattle.rules.specs.declared.BoxPlan.{BoxPlan}
 use Rattle.rules.specs.declared.SwitchBox.{SwitchBox}
 use Rattle.rules.specs.declared.Request.{Request}
-use Rattle.rules.specs.declared.Request.the-variants.{Reserve, Lock}
+use Rattle.rules.specs.declared.Request.the-variants.{Reserve, Lock, GiveBack, Unlock}
 use Rattle.rules.specs.declared.Message.{Message}
 use Rattle.rules.specs.declared.Message.the-variants.{Idle, Sent, Answered}
 use Rattle.rules.specs.declared.Train.{Train}
@@ -15,7 +15,7 @@ use Rattle.rules.specs.declared.Effect.{Effect}
 use Rattle.rules.specs.declared.Effect.the-variants.{Refused, Changed}
 use Rattle.rules.specs.Rows.{first}
 use Rattle.rules.specs.Steps.{requestRows, unless, send, reply, boxAnswers, trainHears, alone}
-use Rattle.rules.proofs.Settled.{Alike, message-alike, heard-alike}
+use Rattle.rules.proofs.Settled.{Alike, message-alike, asking-alike, heard-alike}
 
 -- The train after an effect stands as train r does.
 pub data Stays (r : Train) : Effect → Type 0 where
@@ -29,7 +29,7 @@ module _ (v : Around) (r : Train) (x : SwitchBox) where
 
   send-stays : (q : Request) → Stays r (send v r x q)
   unfolding send unless
-  send-stays q = either (eqb (first (requestRows v r q)) 0) (changed (message-alike r (Sent q))) refused
+  send-stays q = either (eqb (first (requestRows v r q)) 0) (changed (asking-alike v r q)) refused
 
   hear-stays : (g : Message) → Stays r (trainHears v r x g)
   unfolding trainHears
@@ -41,7 +41,9 @@ module _ (v : Around) (r : Train) (x : SwitchBox) where
   unfolding alone
   alone-stays kind box =
       either (eqb kind 1) (send-stays (Reserve box))
-      (either (eqb kind 2) (send-stays (Lock box)) (either (eqb kind 4) (hear-stays (r .message)) refused))
+      (either (eqb kind 2) (send-stays (Lock box))
+      (either (eqb kind 4) (hear-stays (r .message))
+      (either (eqb kind 7) (send-stays (GiveBack box)) (either (eqb kind 8) (send-stays (Unlock box)) refused))))
 
   pub answer-stays : (p : BoxPlan) (g : Message) → Stays r (boxAnswers v r p x g)
   unfolding boxAnswers reply

@@ -5,13 +5,12 @@ use mathlib.Core.Logic.{_≢_, ⊎-elim}
 use mathlib.Core.Bool.{Bool, true, false, cond}
 use mathlib.Core.List.{List}
 use lib.Dec.{eqb, eqb·suc-zero}
-use native.Mathlib.Decide.{ℕ-discrete}
 use native.Mathlib.Omega.{arith}
 use borrow.Author.Tests.{eqb-true, eqb-false}
 use Rattle.rules.specs.declared.BoxPlan.{BoxPlan}
 use Rattle.rules.specs.declared.SwitchBox.{SwitchBox}
 use Rattle.rules.specs.declared.Request.{Request}
-use Rattle.rules.specs.declared.Request.the-variants.{Reserve, Lock}
+use Rattle.rules.specs.declared.Request.the-variants.{Reserve, Lock, GiveBack, Unlock}
 use Rattle.rules.specs.declared.Message.{Message}
 use Rattle.rules.specs.declared.Message.the-variants.{Idle, Sent, Answered}
 use Rattle.rules.specs.declared.Train.{Train}
@@ -23,7 +22,7 @@ use Rattle.rules.specs.Rows.{Row, first}
 use Rattle.rules.specs.Track.{planAt}
 use Rattle.rules.specs.declared.Around.{Around}
 use Rattle.rules.specs.Line.{around, boxAt, trainAt, putTrain, requestKind, requestBox, messageBox}
-use Rattle.rules.specs.Steps.{Step, addressRows, apply, unless, send, reply, boxAnswers, trainHears, enter, clear, formed, formRows, stepRows, concernedBox, alone, effect, step, requestRows, boxRows, enterRows, clearRows, withMessage, withHolding, granted, heard, entered, sensed, cleared, released}
+use Rattle.rules.specs.Steps.{Step, holding, givesBack, addressRows, recordRows, apply, unless, asking, send, reply, boxAnswers, trainHears, enter, clear, formed, formRows, stepRows, concernedBox, alone, effect, step, requestRows, boxRows, enterRows, clearRows, withMessage, withHolding, withoutHolding, granted, heard, entered, sensed, cleared, released}
 use Rattle.rules.specs.Safety.{TrainOf}
 use Rattle.rules.proofs.Tests.{cond-each, EachCode, each-code, outside-false-iff}
 use Rattle.rules.proofs.Steps.{formed-iff, step-row-iff}
@@ -34,8 +33,10 @@ pub request-kind : (q : Request) (kind : ℕ) → 3 ≤ kind → kind ≤ 6 → 
 unfolding requestKind
 request-kind (Reserve b) kind low high e = omega arith
 request-kind (Lock b) kind low high e = omega arith
+request-kind (GiveBack b) kind low high e = omega arith
+request-kind (Unlock b) kind low high e = omega arith
 
--- Kind 1 or 2 sends its request.
+-- Kind 1, 2, 7 or 8 sends its request.
 pub record Sends (l : Line) (s : Step) (q : Request) : Type 0 where
   pub kind : s .kind ≡ requestKind q
   pub box : s .box ≡ requestBox q
@@ -65,8 +66,11 @@ pub record Clears (l : Line) (s : Step) : Type 0 where
   pub train : TrainOf (l .table) (s .train)
   pub free : first (clearRows (trainAt l (s .train))) ≡ 0
 
--- The line after train i's message has become g, after its request q is granted, after it has heard code c in answer to q, after
--- it has entered its next segment, and after it has cleared its tail.
+-- The line after train i has sent request q, after its message has become g, after its request q is granted, after it has heard code
+-- c in answer to q, after it has entered its next segment, and after it has cleared its tail.
+abbrev pub afterSending : Line → ℕ → Request → Line
+afterSending l i q = putTrain l i (asking (around l i) (trainAt l i) q)
+
 abbrev pub afterMessage : Line → ℕ → Message → Line
 afterMessage l i g = putTrain l i (withMessage (trainAt l i) g)
 
@@ -86,16 +90,20 @@ afterClear l i =
     put l i (cleared (trainAt l i)) (around l i .passed)
     (released (planAt (l .table) (around l i .passed)) (boxAt l (around l i .passed)) (around l i .tail) (around l i .second))
 
--- The line after train i's request is granted and recorded, in one.
+-- The train with request q carried out: what it asks for is recorded, what it gives back is not. The line after train i's request is
+-- granted and carried out, in one.
+abbrev pub carriedOut : Around → Train → Request → Train
+carriedOut v r q = cond (givesBack q) (withoutHolding v r (holding q)) (withHolding v r (holding q))
+
 abbrev pub afterRequest : Line → ℕ → Request → Line
 afterRequest a i q =
-    put a i (withHolding (around a i) (trainAt a i) q) (requestBox q)
+    put a i (carriedOut (around a i) (trainAt a i) q) (requestBox q)
     (granted (around a i) (planAt (a .table) (requestBox q)) (boxAt a (requestBox q)) q)
 
 -- What a step does, with its outcome.
 pub data Does (l : Line) (s : Step) : Outcome → Type 0 where
   refuses : {c : ℕ} → c ≢ 0 → c ≢ 23 → Does l s (record { code = c; line = l })
-  sends : {q : Request} → Sends l s q → Does l s (record { code = 0; line = afterMessage l (s .train) (Sent q) })
+  sends : {q : Request} → Sends l s q → Does l s (record { code = 0; line = afterSending l (s .train) q })
   denies
       : {q : Request} {c : ℕ} → Answers l s q c → c ≢ 0
       → Does l s (record { code = c; line = afterMessage l (s .train) (Answered q c) })
@@ -109,8 +117,9 @@ not-23 : (rows : List Row) → EachCode (λ c. c ≢ 23) rows → first rows ≢
 not-23 = each-code (λ c. c ≢ 23)
 
 request-codes : (v : Around) (r : Train) (q : Request) → first (requestRows v r q) ≢ 23
-unfolding EachCode requestRows addressRows
-request-codes v r q = not-23 (requestRows v r q) (omega arith, (omega arith, (omega arith, (omega arith, omega arith))))
+unfolding EachCode requestRows addressRows recordRows
+request-codes v r q =
+    not-23 (requestRows v r q) (omega arith, (omega arith, (omega arith, (omega arith, (omega arith, omega arith)))))
 
 enter-codes : (v : Around) (r : Train) → first (enterRows v r) ≢ 23
 unfolding EachCode enterRows
@@ -124,9 +133,35 @@ step-codes : (k : ℕ) (s : Step) → first (stepRows k s) ≢ 23
 unfolding EachCode stepRows formRows
 step-codes k s = not-23 (stepRows k s) (omega arith, (omega arith, omega arith))
 
--- Of the kinds 3 to 6 the one that is left.
-fourth : (kind : ℕ) → 3 ≤ kind → kind ≤ 6 → kind ≢ 3 → kind ≢ 5 → kind ≢ 6 → kind ≡ 4
-fourth kind low high three five six = omega arith
+-- The kinds of steps that there are.
+data Known : ℕ → Type 0 where
+  reserving : Known 1
+  locking : Known 2
+  answering : Known 3
+  hearing : Known 4
+  entering : Known 5
+  clearing : Known 6
+  givingBack : Known 7
+  unlocking : Known 8
+
+known : (kind box : ℕ) → formed kind box ≡ true → Known kind
+known kind box h =
+    ⊎-elim
+    (⊎-elim (λ asks. among kind (asks .0) (omega arith)) (λ plain. among kind (omega arith) (omega arith)))
+    (λ returns. among kind (omega arith) (returns .1))
+    (formed-iff kind box .0 h)
+  where
+    among : (kind : ℕ) → 1 ≤ kind → kind ≤ 8 → Known kind
+    among zero low high = absurd (omega arith)
+    among (suc zero) low high = reserving
+    among (suc (suc zero)) low high = locking
+    among (suc (suc (suc zero))) low high = answering
+    among (suc (suc (suc (suc zero)))) low high = hearing
+    among (suc (suc (suc (suc (suc zero))))) low high = entering
+    among (suc (suc (suc (suc (suc (suc zero)))))) low high = clearing
+    among (suc (suc (suc (suc (suc (suc (suc zero))))))) low high = givingBack
+    among (suc (suc (suc (suc (suc (suc (suc (suc zero)))))))) low high = unlocking
+    among (suc (suc (suc (suc (suc (suc (suc (suc (suc n))))))))) low high = absurd (omega arith)
 
 -- A step with this effect at box b does one of these.
 record EndsIn (l : Line) (s : Step) (b : ℕ) (e : Effect) : Type 0 where
@@ -154,7 +189,7 @@ module _ (l : Line) (s : Step) where
   unstopped c e other f = either (eqb c 0) _ _ (λ z. f (eqb-true c 0 z)) (λ n. refusal c (eqb-false c 0 n) other)
 
   module _ (train : TrainOf (l .table) (s .train)) where
-    -- Kinds 1 and 2.
+    -- Kinds 1, 2, 7 and 8.
     send-ends : (b : ℕ) (q : Request) → s .kind ≡ requestKind q → s .box ≡ requestBox q
         → EndsIn l s b (send (around l (s .train)) (trainAt l (s .train)) (boxAt l b) q)
     unfolding send
@@ -216,25 +251,19 @@ module _ (l : Line) (s : Step) where
         → let b = concernedBox kind (around l (s .train)) (trainAt l (s .train)) in
         EndsIn l s b (effect kind (s .box) (around l (s .train)) (trainAt l (s .train)) (planAt (l .table) b) (boxAt l b))
     unfolding effect alone concernedBox requestKind requestBox
-    effect-ends kind e h =
-        elim (ℕ-discrete kind 3) [
-          | yes a ↦ rw a (answer-ends _ refl (e ∙ a))
-          | no a ↦ elim (ℕ-discrete kind 5) [
-            | yes b ↦ rw b (enter-ends (e ∙ b))
-            | no b ↦ elim (ℕ-discrete kind 6) [
-              | yes c ↦ rw c (clear-ends (e ∙ c))
-              | no c ↦ elim (ℕ-discrete kind 1) [
-                | yes d ↦ rw d (send-ends 0 (Reserve (s .box)) (e ∙ d) refl)
-                | no d ↦ elim (ℕ-discrete kind 2) [
-                  | yes f ↦ rw f (send-ends 0 (Lock (s .box)) (e ∙ f) refl)
-                  | no f ↦
-                      let g : kind ≡ 4 = ⊎-elim (λ ask. absurd (omega arith)) (λ plain. fourth kind (plain .0 .0) (plain .0 .1) a b c) (formed-iff _ _ .0 h) in
-                      rw g (hear-ends 0 _ refl (e ∙ g))
-                ]
-              ]
-            ]
-          ]
-        ]
+    effect-ends kind e h = by kind e (known kind (s .box) h)
+      where
+        by : (kind : ℕ) → s .kind ≡ kind → Known kind
+            → let b = concernedBox kind (around l (s .train)) (trainAt l (s .train)) in
+            EndsIn l s b (effect kind (s .box) (around l (s .train)) (trainAt l (s .train)) (planAt (l .table) b) (boxAt l b))
+        by kind e reserving = send-ends 0 (Reserve (s .box)) e refl
+        by kind e locking = send-ends 0 (Lock (s .box)) e refl
+        by kind e answering = answer-ends _ refl e
+        by kind e hearing = hear-ends 0 _ refl e
+        by kind e entering = enter-ends e
+        by kind e clearing = clear-ends e
+        by kind e givingBack = send-ends 0 (GiveBack (s .box)) e refl
+        by kind e unlocking = send-ends 0 (Unlock (s .box)) e refl
 
   -- Every step does one of these.
   pub does : Does l s (step l s)

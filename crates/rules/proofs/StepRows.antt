@@ -2,19 +2,20 @@
 use Prim.Native.Nat.{ℕ, _≤_, _<_}
 use mathlib.Core.Path.{_≡_, refl, sym, _∙_, ap}
 use mathlib.Core.Logic.{_↔_, Iff·rfl, _≢_}
-use mathlib.Core.Bool.{true, false, false≢true}
-use mathlib.Core.List.{List}
+use mathlib.Core.Bool.{Bool, true, false, not, _&&_, false≢true}
+use mathlib.Core.List.{List, [], _∷_}
 use native.Mathlib.Omega.{arith}
 use Rattle.rules.specs.declared.Table.{Table}
+use Rattle.rules.specs.declared.Holding.{Holding}
+use Rattle.rules.specs.declared.Holding.the-variants.{NextAt, LockAt}
 use Rattle.rules.specs.declared.Request.{Request}
-use Rattle.rules.specs.declared.Request.the-variants.{Reserve, Lock}
 use Rattle.rules.specs.declared.Message.{Message}
 use Rattle.rules.specs.declared.Message.the-variants.{Idle, Sent, Answered}
 use Rattle.rules.specs.declared.Train.{Train}
-use Rattle.rules.specs.Rows.{first}
+use Rattle.rules.specs.Rows.{_if_, first}
 use Rattle.rules.specs.declared.Around.{Around}
 use Rattle.rules.specs.Line.{aroundOn, aroundTrain}
-use Rattle.rules.specs.Steps.{isOpen, addressed, recorded, atEnd, addressRows, requestRows, enterRows, clearRows, another}
+use Rattle.rules.specs.Steps.{isOpen, holding, givesBack, addressed, recorded, atEnd, addressRows, recordRows, requestRows, enterRows, clearRows, another}
 use Rattle.rules.specs.Invariant.{Open, sent, answered}
 use Rattle.rules.proofs.Tests.{facts, implies-iff, first-none, first-zero-iff}
 
@@ -40,19 +41,31 @@ not-open {q} {g} e w = false≢true (sym (closed-iff g .1 e) ∙ open-message w)
 
 -- Codes 16 and 17: the train has a next, and the request is made at its box.
 pub address-iff : (v : Around) (r : Train) (q : Request)
-    → (first (addressRows v r q) ≡ 0) ↔ ((r .place < r .length) × (addressed v q ≡ true))
+    → (first (addressRows v r q) ≡ 0) ↔ ((r .place < r .length) × (addressed v (holding q) ≡ true))
 unfolding addressRows atEnd
 address-iff v r q = simp (facts, first-zero-iff, first-none) (λ e. (e .0, e .1 .0), λ e. (e .0, (e .1, refl)))
 
--- A request may be sent: no message is open, 16 and 17 do not stop it, and it is not recorded already.
+-- Codes 18 and 29: what is given back is recorded, and what is asked for is not.
+record-iff : (v : Around) (r : Train) (q : Request)
+    → (first (recordRows v r q) ≡ 0) ↔ (recorded v r (holding q) ≡ givesBack q)
+unfolding recordRows first
+record-iff v r q = by (givesBack q) (recorded v r (holding q))
+  where
+    by : (g h : Bool) → (first (18 if (not g && h) ∷ 29 if (g && not h) ∷ []) ≡ 0) ↔ (h ≡ g)
+    by true true = (λ _. refl, λ _. refl)
+    by true false = (λ e. absurd (omega (arith, e)), λ e. absurd (false≢true e))
+    by false true = (λ e. absurd (omega (arith, e)), λ e. absurd (false≢true (sym e)))
+    by false false = (λ _. refl, λ _. refl)
+
+-- A request may be sent: no message is open, 16 and 17 do not stop it, nor do 18 and 29.
 pub request-iff : (v : Around) (r : Train) (q : Request)
     → (first (requestRows v r q) ≡ 0)
-    ↔ ((r .message ≡ Idle) × ((first (addressRows v r q) ≡ 0) × (recorded v r q ≡ false)))
+    ↔ ((r .message ≡ Idle) × ((first (addressRows v r q) ≡ 0) × (recorded v r (holding q) ≡ givesBack q)))
 unfolding requestRows addressRows atEnd
 request-iff v r q =
-    simp (facts, closed-iff, first-zero-iff, first-none) (
-      λ (closed, (next, (at, (new, none)))). (closed, ((next, (at, refl)), new)),
-      λ (closed, ((next, (at, none)), new)). (closed, (next, (at, (new, refl)))),
+    simp (facts, closed-iff, first-zero-iff, first-none, record-iff) (
+      λ (closed, (next, (at, fits))). (closed, ((next, (at, refl)), fits)),
+      λ (closed, ((next, (at, none)), fits)). (closed, (next, (at, fits))),
     )
 
 -- What a train asks for, and whether it has recorded that, does not hang on how much it covers, nor on its message.
@@ -70,17 +83,21 @@ module _ (t : Table) (routes : List ℕ) (i : ℕ) (r : Train) (covered : ℕ) (
         message = message;
       }
 
+  addressed-same : (h : Holding) → addressed (aroundTrain t routes i showing) h ≡ addressed (aroundTrain t routes i r) h
+  unfolding addressed aroundOn
+  addressed-same (NextAt b) = refl
+  addressed-same (LockAt b) = refl
+
   pub address-same : (q : Request) → addressRows (aroundTrain t routes i showing) showing q ≡ addressRows (aroundTrain t routes i r) r q
-  unfolding addressRows addressed atEnd aroundOn
-  address-same (Reserve b) = refl
-  address-same (Lock b) = refl
+  unfolding addressRows atEnd
+  address-same q = rw (addressed-same (holding q))
 
-  pub recorded-same : (q : Request) → recorded (aroundTrain t routes i showing) showing q ≡ recorded (aroundTrain t routes i r) r q
+  pub recorded-same : (h : Holding) → recorded (aroundTrain t routes i showing) showing h ≡ recorded (aroundTrain t routes i r) r h
   unfolding recorded aroundOn
-  recorded-same (Reserve b) = refl
-  recorded-same (Lock b) = refl
+  recorded-same (NextAt b) = refl
+  recorded-same (LockAt b) = refl
 
-pub lock-address-iff : (v : Around) (b : ℕ) → (addressed v (Lock b) ≡ true) ↔ ((b ≡ v .ahead) × (v .point ≡ true))
+pub lock-address-iff : (v : Around) (b : ℕ) → (addressed v (LockAt b) ≡ true) ↔ ((b ≡ v .ahead) × (v .point ≡ true))
 unfolding addressed
 lock-address-iff v b = simp facts Iff·rfl
 

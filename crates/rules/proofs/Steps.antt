@@ -15,12 +15,15 @@ use Rattle.rules.specs.Steps.{Step, apply, unless, formed, formRows, ste
 use Rattle.rules.proofs.Tests.{facts, or-true-iff, first-none, first-zero-iff}
 
 -- The kinds that there are.
-pub formed-iff : (kind box : ℕ) → (formed kind box ≡ true) ↔ (((1 ≤ kind) × (kind ≤ 2)) ⊎ (((3 ≤ kind) × (kind ≤ 6)) × (box ≡ 0)))
+pub formed-iff : (kind box : ℕ)
+    → (formed kind box ≡ true)
+    ↔ ((((1 ≤ kind) × (kind ≤ 2)) ⊎ (((3 ≤ kind) × (kind ≤ 6)) × (box ≡ 0))) ⊎ ((7 ≤ kind) × (kind ≤ 8)))
 unfolding formed
 formed-iff kind box =
     let asks : ((leb 1 kind && leb kind 2) ≡ true) ↔ ((1 ≤ kind) × (kind ≤ 2)) = simp facts Iff·rfl in
     let plain : ((leb 3 kind && leb kind 6 && eqb box 0) ≡ true) ↔ (((3 ≤ kind) × (kind ≤ 6)) × (box ≡ 0)) = simp facts Iff·rfl in
-    or-true-iff _ _ asks plain
+    let returns : ((leb 7 kind && leb kind 8) ≡ true) ↔ ((7 ≤ kind) × (kind ≤ 8)) = simp facts Iff·rfl in
+    or-true-iff _ _ (or-true-iff _ _ asks plain) returns
 
 -- Row Step stops nothing: there is such a step, and such a train.
 pub form-row-iff : (kind box : ℕ) → (first (formRows kind box) ≡ 0) ↔ (formed kind box ≡ true)

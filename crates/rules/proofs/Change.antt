@@ -18,7 +18,7 @@ use Rattle.rules.specs.Safety.{TrainOf, Covers, placeIn, placeOf}
 use Rattle.rules.specs.Invariant.{boxBeyond, CrossesAt, Needs, ahead, NeedsLock, UsesLock, Fits, Crossed, Fitting}
 use Rattle.rules.proofs.Accepted.{Accepted, BoxOf}
 use Rattle.rules.proofs.Boxes.{far-box, joint, joint-stem}
-use Rattle.rules.proofs.Routes.{between}
+use Rattle.rules.proofs.Routes.{between, far-once}
 use Rattle.rules.proofs.Frames.{put, Sized, each-train, each-box, train-put}
 use Rattle.rules.proofs.Sound.{Placed}
 
@@ -207,3 +207,12 @@ module _ {a : Line} (h : Steady a) {i : ℕ} (k : TrainOf (a .table) i) where
   pub apart-still : (j : ℕ) → TrainOf (a .table) j → j ≢ i → (p q : ℕ) → Covers (placeOf a i) p → Covers (placeOf a j) q
       → routeAt (a .routes) i p ≢ routeAt (a .routes) j q
   apart-still j kj n p q cp cq e = n (sym (h .fitting .apart i j k kj p q cp cq e))
+
+  -- It does not cross the box ahead of it.
+  pub ahead-uncrossed : {q b : ℕ} → CrossesAt (a .table) (a .routes) i (trainAt a i) q b
+      → b ≢ boxBeyond (a .table) (a .routes) i (trainAt a i) (trainAt a i .place)
+  ahead-uncrossed {q} c e =
+      let place = h .placed i k in
+      let once = far-once (h .accepted .noLoop) (place .route) in
+      let same = once q (trainAt a i .place) (omega arith) (omega arith) (omega arith) (omega arith) (c .between ∙ e) in
+      omega arith

@@ -2,31 +2,32 @@
 use Prim.Native.Nat.{ℕ}
 use mathlib.Core.Path.{_≡_, refl, sym, _∙_}
 use mathlib.Core.Logic.{_≢_}
-use mathlib.Core.Bool.{Bool, true, false}
+use mathlib.Core.Bool.{Bool, true, false, cond}
 use mathlib.Core.List.{[], _∷_}
 use native.Mathlib.Omega.{arith}
 use Rattle.rules.specs.declared.BoxPlan.{BoxPlan}
 use Rattle.rules.specs.declared.SwitchBox.{SwitchBox}
+use Rattle.rules.specs.declared.Holding.{Holding}
+use Rattle.rules.specs.declared.Holding.the-variants.{NextAt, LockAt}
 use Rattle.rules.specs.declared.Request.{Request}
-use Rattle.rules.specs.declared.Request.the-variants.{Reserve, Lock}
 use Rattle.rules.specs.declared.Message.the-variants.{Idle}
 use Rattle.rules.specs.declared.Line.{Line}
 use Rattle.rules.specs.declared.Outcome.{Outcome}
 use Rattle.rules.specs.Rows.{_if_, first}
 use Rattle.rules.specs.File.{decode}
 use Rattle.rules.specs.declared.Around.{Around}
-use Rattle.rules.specs.Line.{startLine, aroundOn, around, boxAt, trainAt, requestBox, messageBox}
-use Rattle.rules.specs.Steps.{Step, another, boxRows, step}
+use Rattle.rules.specs.Line.{startLine, aroundOn, around, boxAt, trainAt, messageBox}
+use Rattle.rules.specs.Steps.{Step, holding, givesBack, holdingBox, addressed, another, grantRows, boxRows, step}
 use Rattle.rules.specs.Safety.{TrainOf, reached}
 use Rattle.rules.specs.Invariant.{CrossesAt, crossedPoint, settled, sent, Invariant}
 use Rattle.rules.specs.Consequences.{AlsoHolds}
-use Rattle.rules.proofs.Tests.{facts}
-use Rattle.rules.proofs.Routes.{far-once}
+use Rattle.rules.proofs.Tests.{facts, first-none}
 use Rattle.rules.proofs.Files.{file-iff}
 use Rattle.rules.proofs.StepKinds.{request-kind, Answers, Does, refuses, sends, denies, grants, hears, enters, clears, does}
 use Rattle.rules.proofs.StepRows.{address-iff, lock-address-iff}
-use Rattle.rules.proofs.Change.{Steady}
-use Rattle.rules.proofs.Settled.{table-settled, around-settled, box-settled}
+use Rattle.rules.proofs.Holdings.{request-box}
+use Rattle.rules.proofs.Change.{Steady, ahead-uncrossed}
+use Rattle.rules.proofs.Settled.{settling, table-quiet, around-quiet, box-quiet}
 use Rattle.rules.proofs.SettledSteps.{addressed-open, enter-idle}
 use Rattle.rules.proofs.Keeps.{steady}
 use Rattle.rules.proofs.Moves.{other-trains, other-boxes}
@@ -44,8 +45,8 @@ answers-23 (enters w) kind code = absurd (omega arith)
 answers-23 (clears w) kind code = absurd (omega arith)
 
 -- A box that answers 23 was asked for its lock, and its sensor is active.
-data Blocked (x : SwitchBox) : Request → Type 0 where
-  blocked : {b : ℕ} → x .sensor ≡ true → Blocked x (Lock b)
+data Blocked (x : SwitchBox) : Holding → Type 0 where
+  blocked : {b : ℕ} → x .sensor ≡ true → Blocked x (LockAt b)
 
 only-22 : (c : Bool) → first (22 if c ∷ []) ≢ 23
 unfolding first
@@ -59,22 +60,21 @@ only-23 false true e f = absurd (omega arith)
 only-23 false false true f = absurd (omega arith)
 only-23 false false false f = absurd (omega arith)
 
-row-23 : (v : Around) (p : BoxPlan) (x : SwitchBox) (q : Request) → first (boxRows v p x q) ≡ 23 → Blocked x q
+grant-23 : (v : Around) (p : BoxPlan) (x : SwitchBox) (h : Holding) → first (grantRows v p x h) ≡ 23 → Blocked x h
+unfolding grantRows
+grant-23 v p x (NextAt b) e = absurd (only-22 _ e)
+grant-23 v p x (LockAt b) e = blocked (only-23 _ _ _ e)
+
+row-23 : (v : Around) (p : BoxPlan) (x : SwitchBox) (q : Request) → first (boxRows v p x q) ≡ 23 → Blocked x (holding q)
 unfolding boxRows
-row-23 v p x (Reserve b) e = absurd (only-22 _ e)
-row-23 v p x (Lock b) e = blocked (only-23 _ _ _ e)
+row-23 v p x q e = by (givesBack q) e
+  where
+    by : (b : Bool) → first (cond b [] (grantRows v p x (holding q))) ≡ 23 → Blocked x (holding q)
+    by true e = absurd (omega (arith, first-none, e))
+    by false e = grant-23 v p x (holding q) e
 
 -- Where trains and boxes fit together:
 module _ {a : Line} (h : Steady a) {i : ℕ} (k : TrainOf (a .table) i) where
-  -- A train does not cross the box ahead of it.
-  ahead-uncrossed : {q b : ℕ} → CrossesAt (a .table) (a .routes) i (trainAt a i) q b → b ≢ around a i .ahead
-  unfolding around aroundOn
-  ahead-uncrossed {q} c e =
-      let place = h .placed i k in
-      let once = far-once (h .accepted .noLoop) (place .route) in
-      let same = once q (trainAt a i .place) (omega arith) (omega arith) (omega arith) (omega arith) (c .between ∙ e) in
-      omega arith
-
   -- A point ahead of it whose sensor is active is locked for another.
   sensed-locked : {b : ℕ} → boxAt a b .sensor ≡ true → b ≡ around a i .ahead → around a i .point ≡ true
       → another i (boxAt a b .lock) ≡ true
@@ -82,24 +82,24 @@ module _ {a : Line} (h : Steady a) {i : ℕ} (k : TrainOf (a .table) i) where
   sensed-locked {b} active there point =
       let c = h .fitting .sensedCrossed b active in
       let lock = h .fitting .fits (c .train) (c .known) b .locked (crossedPoint (c .crosses) (rw there point)) in
-      rw lock (simp facts (omega (arith, c .known .low), λ e. ahead-uncrossed (rw e at (c .crosses)) there))
+      rw lock (simp facts (omega (arith, c .known .low), λ e. ahead-uncrossed h k (rw e at (c .crosses)) there))
 
 -- A box says 23 only where another train holds its lock.
 lock-held : {l : Line} → Invariant l → (s : Step) → s .kind ≡ 3 → step l s .code ≡ 23
     → another (s .train) (boxAt l (messageBox (trainAt l (s .train) .message)) .lock) ≡ true
-unfolding messageBox requestBox
+unfolding messageBox holdingBox
 lock-held {l} h s kind code =
     let (q, w) = answers-23 (does l s) kind code in
-    rw (w .sent) (go q w (row-23 _ _ _ q (w .code)))
+    let (next, at) = address-iff _ _ _ .0 (addressed-open h (s .train) (w .train) q (rw (w .sent) sent)) in
+    rw (w .sent, request-box q) (go (holding q) (w .train) at (rw (request-box q) at (row-23 _ _ _ q (w .code))))
   where
-    go : (q : Request) → Answers l s q 23 → Blocked (boxAt l (requestBox q)) q
-        → another (s .train) (boxAt l (requestBox q) .lock) ≡ true
-    go q w (blocked active) =
-        let (next, at) = address-iff _ _ _ .0 (addressed-open h (s .train) (w .train) q (rw (w .sent) sent)) in
-        let (there, point) = lock-address-iff _ _ .0 at in
-        let known : TrainOf (settled l .table) (s .train) = rw table-settled (w .train) in
-        rw box-settled at
-        (sensed-locked (steady h) known {b = requestBox q} (rw box-settled active) (rw around-settled there) (rw around-settled point))
+    go : (z : Holding) → TrainOf (l .table) (s .train) → addressed (around l (s .train)) z ≡ true → Blocked (boxAt l (holdingBox z)) z
+        → another (s .train) (boxAt l (holdingBox z) .lock) ≡ true
+    go (LockAt b) k at (blocked active) =
+        let (there, point) = lock-address-iff _ b .0 at in
+        let known : TrainOf (settled l .table) (s .train) = rw (table-quiet settling) k in
+        rw (box-quiet settling) at
+        (sensed-locked (steady h) known {b = b} (rw (box-quiet settling) active) (rw (around-quiet settling) there) (rw (around-quiet settling) point))
 
 -- A train enters only where it has no message.
 silent : {l : Line} → Invariant l → (s : Step) (o : Outcome) → Does l s o → s .kind ≡ 5 → o .code ≡ 0

@@ -36,23 +36,25 @@ pub mod StepKinds
 pub mod StepRows
 -- What a train has recorded, where it records a holding and where it drops the record.
 pub mod Holdings
--- Trains and boxes that fit together, and what a change of one train and one box must observe; then a granted request, Enter and
--- Clear, on a line without messages.
+-- Trains and boxes that fit together, and what a change of one train and one box must observe; then a granted request, a give-back,
+-- Enter and Clear, on a line without messages.
 pub mod Change
 pub mod Requesting
+pub mod Giving
 pub mod Entering
 pub mod Clearing
 -- The box that a step concerns is one of the table.
 pub mod Concerned
--- The line with every yes on its way taken as heard.
+-- A line with its trains' messages taken away, as the settled line and the atomic line have it.
 pub mod Settled
--- Kinds 1 to 4 leave a train where it stands.
+-- Kinds 1 to 4, 7 and 8 leave a train where it stands.
 pub mod Staying
 -- The invariant holds on the start line of every accepted table.
 pub mod Start
--- What each step is on the settled line.
+-- What each step is on the settled line and on the atomic one, and what those of a give-back are.
 pub mod SettledSteps
--- Each step is, on the settled line, the atomic steps that it adds to the order.
+pub mod GivingSteps
+-- Each step is, on the atomic line, the atomic steps that it adds to the order.
 pub mod Simulates
 -- A box stays sound at a grant, an Enter and a Clear.
 pub mod SoundBoxes

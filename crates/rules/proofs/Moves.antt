@@ -7,8 +7,9 @@ use native.Mathlib.Decide.{ℕ-discrete}
 use native.Mathlib.Omega.{arith}
 use Rattle.rules.specs.declared.BoxPlan.{BoxPlan}
 use Rattle.rules.specs.declared.Table.{Table}
+use Rattle.rules.specs.declared.Holding.{Holding}
+use Rattle.rules.specs.declared.Holding.the-variants.{NextAt, LockAt}
 use Rattle.rules.specs.declared.Request.{Request}
-use Rattle.rules.specs.declared.Request.the-variants.{Reserve, Lock}
 use Rattle.rules.specs.declared.SwitchBox.{SwitchBox}
 use Rattle.rules.specs.declared.Train.{Train}
 use Rattle.rules.specs.declared.Line.{Line}
@@ -16,12 +17,13 @@ use Rattle.rules.specs.declared.Outcome.{Outcome}
 use Rattle.rules.specs.Rows.{first}
 use Rattle.rules.specs.declared.Around.{Around}
 use Rattle.rules.specs.Line.{boxAt, trainAt, putTrain, setHolder}
-use Rattle.rules.specs.Steps.{Step, boxRows, granted, entered, sensed, cleared, released}
+use Rattle.rules.specs.Steps.{Step, holding, grantRows, boxRows, given, freed, granted, entered, sensed, cleared, released}
 use Rattle.rules.specs.History.{Event, _answered_, Place, accepted, moved}
 use Rattle.rules.specs.Safety.{TrainOf, Fixed, placeIn, placeOf}
 use Rattle.rules.proofs.Tests.{facts, not-passed, first-zero-iff}
 use Rattle.rules.proofs.Frames.{put, Sized, table-put, routes-put, train-put, train-other, box-other, every-train, every-box, train-back, train-alone}
-use Rattle.rules.proofs.Settled.{Alike, message-alike, heard-alike}
+use Rattle.rules.proofs.StepRows.{granted-each}
+use Rattle.rules.proofs.Settled.{Alike, message-alike, asking-alike, heard-alike}
 use Rattle.rules.proofs.StepKinds.{request-kind, Does, refuses, sends, denies, grants, hears, enters, clears}
 
 -- An event is an accepted step of this kind of train i.
@@ -63,12 +65,22 @@ unmoved : {x y : SwitchBox} → y .position ≡ x .position → Still x y
 unmoved e = record { before = λ _. e; after = λ _. e }
 
 -- A box that grants a request: row 23 stops a lock where the sensor is active.
-granted-still : (v : Around) (p : BoxPlan) (x : SwitchBox) (q : Request) → first (boxRows v p x q) ≡ 0 → Still x (granted v p x q)
-unfolding boxRows granted setHolder
-granted-still v p x (Reserve b) e = unmoved refl
-granted-still v p x (Lock b) e =
+given-still : (v : Around) (p : BoxPlan) (x : SwitchBox) (h : Holding) → first (grantRows v p x h) ≡ 0 → Still x (given v p x h)
+unfolding grantRows given setHolder
+given-still v p x (NextAt b) e = unmoved refl
+given-still v p x (LockAt b) e =
     let (passive, rest) = simp first-zero-iff at e in
     record { before = λ h. absurd (false≢true (sym passive ∙ h)); after = λ h. absurd (false≢true (sym passive ∙ h)) }
+
+freed-still : (v : Around) (p : BoxPlan) (x : SwitchBox) (h : Holding) → Still x (freed v p x h)
+unfolding freed setHolder
+freed-still v p x (NextAt b) = unmoved refl
+freed-still v p x (LockAt b) = unmoved refl
+
+granted-still : (v : Around) (p : BoxPlan) (x : SwitchBox) (q : Request) → first (boxRows v p x q) ≡ 0 → Still x (granted v p x q)
+unfolding boxRows
+granted-still v p x q e =
+    granted-each (Still x) v p x q (λ n. given-still v p x (holding q) (rw n at e)) (λ _ _. freed-still v p x (holding q)) (unmoved refl)
 
 -- Records of a train that stand alike are at one place.
 pub place-alike : {r x : Train} → Alike r x → placeIn r ≡ placeIn x
@@ -118,7 +130,7 @@ put-back l s o (refuses n other) =
       still = unmoved refl;
     }
 put-back l s o (sends {q} h) =
-    alone l s 0 _ (runs-alike (message-alike _ _) _ _ (λ low high _ _. request-kind q (s .kind) (omega arith) high (sym (h .kind))))
+    alone l s 0 _ (runs-alike (asking-alike _ _ q) _ _ (λ low high _ _. request-kind q (s .kind) (omega arith) high (sym (h .kind))))
 put-back l s o (denies h n) = alone l s _ _ (runs-alike (message-alike _ _) _ _ (λ _ _ _ a. n a))
 put-back l s o (grants {q} h) =
     both l s 0 _ _ _ (runs-alike (message-alike _ _) _ _ (λ a _ _ _. omega (arith, h .kind))) (granted-still _ _ _ q (h .code))

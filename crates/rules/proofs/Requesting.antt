@@ -2,12 +2,14 @@
 use Prim.Native.Nat.{ℕ, _+_, _<_}
 use mathlib.Core.Path.{_≡_, refl, sym, _∙_}
 use mathlib.Core.Logic.{_⊎_, inl, inr, ⊎-elim, Iff·rfl, _≢_}
-use mathlib.Core.Bool.{true, false}
+use mathlib.Core.Bool.{true, false, false≢true}
 use mathlib.Core.List.{List}
 use native.Mathlib.Decide.{ℕ-discrete}
 use native.Mathlib.Omega.{arith}
+use Rattle.rules.specs.declared.Holding.{Holding}
+use Rattle.rules.specs.declared.Holding.the-variants.{NextAt, LockAt}
 use Rattle.rules.specs.declared.Request.{Request}
-use Rattle.rules.specs.declared.Request.the-variants.{Reserve, Lock}
+use Rattle.rules.specs.declared.Request.the-variants.{Reserve, Lock, GiveBack, Unlock}
 use Rattle.rules.specs.declared.SwitchBox.{SwitchBox}
 use Rattle.rules.specs.declared.Table.{Table}
 use Rattle.rules.specs.declared.Train.{Train}
@@ -16,7 +18,7 @@ use Rattle.rules.specs.Rows.{first}
 use Rattle.rules.specs.Track.{planAt, routeAt, isPoint}
 use Rattle.rules.specs.Network.{lists}
 use Rattle.rules.specs.Line.{requestBox, aroundOn, aroundTrain, around, boxAt, trainAt, holderOf, setHolder}
-use Rattle.rules.specs.Steps.{addressed, addressRows, boxRows, another, positionFor, withHolding, granted, sensed}
+use Rattle.rules.specs.Steps.{holding, givesBack, addressed, addressRows, grantRows, boxRows, another, positionFor, withHolding, lockGiven, given, granted, sensed}
 use Rattle.rules.specs.Safety.{TrainOf}
 use Rattle.rules.specs.Invariant.{boxBeyond, Needs, ahead, crossed, nearRecorded, farRecorded, NeedsLock, crossedPoint, lockRecorded, UsesLock, Fitting}
 use Rattle.rules.proofs.Accepted.{Accepted, BoxOf}
@@ -31,10 +33,10 @@ use Rattle.rules.proofs.Change.{ahead-box, Steady, no-more, uses-by, ch
 
 -- The box of a request is one of the table. A reservation's box lists next.
 module _ {t : Table} (a : Accepted t) {routes : List ℕ} {i : ℕ} {r : Train} (h : Placed t routes i r) where
-  reserve-box : (b : ℕ) → r .place < r .length → addressed (aroundTrain t routes i r) (Reserve b) ≡ true
+  pub next-box : (b : ℕ) → r .place < r .length → addressed (aroundTrain t routes i r) (NextAt b) ≡ true
       → BoxOf (t .m) b × (lists (planAt t b) (routeAt routes i (r .place + 1)) ≡ true)
   unfolding addressed aroundOn
-  reserve-box b next at =
+  next-box b next at =
       let segment = h .route .segment (r .place + 1) (omega arith) (omega arith) in
       ⊎-elim
       (λ e. rw e (a .ends _ segment .box (r .direction), a .listed (r .direction) _ segment))
@@ -42,14 +44,17 @@ module _ {t : Table} (a : Accepted t) {routes : List ℕ} {i : ℕ} {r : Train} 
       (or-true-iff _ _ (eqb-true-iff b _) (eqb-true-iff b _) .0 at)
 
   pub request-box : (q : Request) → first (addressRows (aroundTrain t routes i r) r q) ≡ 0 → BoxOf (t .m) (requestBox q)
-  unfolding requestBox aroundOn
-  request-box (Reserve b) e =
-      let (next, at) = address-iff (aroundTrain t routes i r) r (Reserve b) .0 e in
-      reserve-box b next at .0
-  request-box (Lock b) e =
-      let (next, at) = address-iff (aroundTrain t routes i r) r (Lock b) .0 e in
-      let (here, point) = lock-address-iff (aroundTrain t routes i r) b .0 at in
-      rw here (ahead-box a h)
+  unfolding requestBox holding aroundOn
+  request-box q e = let (next, at) = address-iff (aroundTrain t routes i r) r q .0 e in by q next at
+    where
+      lock-box : (b : ℕ) → addressed (aroundTrain t routes i r) (LockAt b) ≡ true → BoxOf (t .m) b
+      lock-box b at = let (here, point) = lock-address-iff (aroundTrain t routes i r) b .0 at in rw here (ahead-box a h)
+
+      by : (q : Request) → r .place < r .length → addressed (aroundTrain t routes i r) (holding q) ≡ true → BoxOf (t .m) (requestBox q)
+      by (Reserve b) next at = next-box b next at .0
+      by (Lock b) next at = lock-box b at
+      by (GiveBack b) next at = next-box b next at .0
+      by (Unlock b) next at = lock-box b at
 
 -- Train i of a line without messages asks.
 module _ {a : Line} (h : Steady a) {i : ℕ} (k : TrainOf (a .table) i) where
@@ -67,17 +72,17 @@ module _ {a : Line} (h : Steady a) {i : ℕ} (k : TrainOf (a .table) i) where
   asked = routeAt routes i (r .place + 1)
 
   -- A reservation. What it changes at box b is the holder of next, which was nobody's or the train's own.
-  module _ (b : ℕ) (next : r .place < r .length) (at : addressed (around a i) (Reserve b) ≡ true)
+  module _ (b : ℕ) (next : r .place < r .length) (at : addressed (around a i) (NextAt b) ≡ true)
       (free : another i (holderOf (planAt t b) (boxAt a b) asked) ≡ false) where
     abbrev reserver : Train
-    reserver = withHolding (around a i) r (Reserve b)
+    reserver = withHolding (around a i) r (NextAt b)
 
     abbrev reserving : SwitchBox
     reserving = setHolder (planAt t b) (boxAt a b) asked i
 
     asked-box : BoxOf (t .m) b × (lists (planAt t b) asked ≡ true)
     unfolding around
-    asked-box = reserve-box (h .accepted) (h .placed i k) b next at
+    asked-box = next-box (h .accepted) (h .placed i k) b next at
 
     -- What is held by train j stays so, unless it is next here and j another train.
     held-still : (j s : ℕ) → (s ≡ asked → j ≡ i) → holderOf (planAt t b) (boxAt a b) s ≡ j → holderOf (planAt t b) reserving s ≡ j
@@ -142,10 +147,10 @@ module _ {a : Line} (h : Steady a) {i : ℕ} (k : TrainOf (a .table) i) where
     point-ahead = boxBeyond t routes i r (r .place)
 
     abbrev locker : Train
-    locker = withHolding (around a i) r (Lock point-ahead)
+    locker = withHolding (around a i) r (LockAt point-ahead)
 
     abbrev locking : SwitchBox
-    locking = granted (around a i) (planAt t point-ahead) (boxAt a point-ahead) (Lock point-ahead)
+    locking = lockGiven (around a i) (planAt t point-ahead) (boxAt a point-ahead)
 
     needs-locker : {c s : ℕ} → Needs t routes i locker c s → Needs t routes i r c s
     unfolding withHolding
@@ -178,7 +183,7 @@ module _ {a : Line} (h : Steady a) {i : ℕ} (k : TrainOf (a .table) i) where
         }
 
     lock-fits : Fitting (put a i locker point-ahead locking)
-    unfolding withHolding around aroundOn granted holderOf
+    unfolding withHolding around aroundOn holderOf
     lock-fits =
         change-fits h k (ahead-box (h .accepted) (h .placed i k))
         {x = locking} record {
@@ -210,17 +215,19 @@ module _ {a : Line} (h : Steady a) {i : ℕ} (k : TrainOf (a .table) i) where
 
   -- Where the rows of codes stop nothing.
   pub request-fits
-      : (q : Request) → first (addressRows (around a i) r q) ≡ 0
+      : (q : Request) → givesBack q ≡ false → first (addressRows (around a i) r q) ≡ 0
       → first (boxRows (around a i) (planAt t (requestBox q)) (boxAt a (requestBox q)) q) ≡ 0
       → Fitting (afterRequest a i q)
-  unfolding boxRows requestBox granted around aroundOn
-  request-fits (Reserve b) e f =
+  unfolding boxRows grantRows requestBox holding givesBack given granted around aroundOn
+  request-fits (Reserve b) n e f =
       let (next, at) = address-iff (around a i) r (Reserve b) .0 e in
       let (free, none) = simp first-zero-iff at f in
       reserve-fits b next at free
-  request-fits (Lock b) e f =
+  request-fits (Lock b) n e f =
       let (next, at) = address-iff (around a i) r (Lock b) .0 e in
       let (here, point) = lock-address-iff (around a i) b .0 at in
       let (sensor, (unheld, reserved)) = simp first-zero-iff at f in
       let free : another i (boxAt a b .lock) ≡ false = unheld in
       rw here (lock-fits next point (rw here at free))
+  request-fits (GiveBack b) n e f = absurd (false≢true (sym n))
+  request-fits (Unlock b) n e f = absurd (false≢true (sym n))

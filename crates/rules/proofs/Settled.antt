@@ -19,10 +19,10 @@ use Rattle.rules.specs.declared.Message.{Message}
 use Rattle.rules.specs.declared.Message.the-variants.{Idle, Sent, Answered}
 use Rattle.rules.specs.declared.Train.{Train}
 use Rattle.rules.specs.declared.Line.{Line}
-use Rattle.rules.specs.Rows.{nth, setNth, listOf}
+use Rattle.rules.specs.Rows.{first, nth, setNth, listOf}
 use Rattle.rules.specs.declared.Around.{Around}
 use Rattle.rules.specs.Line.{noTrain, aroundOn, aroundTrain, around, boxAt, trainAt, putTrain, putBox}
-use Rattle.rules.specs.Steps.{holding, givesBack, withMessage, withHolding, withoutHolding, asking, heard, cleared}
+use Rattle.rules.specs.Steps.{holding, givesBack, atEnd, addressRows, withMessage, withHolding, withoutHolding, asking, heard, cleared}
 use Rattle.rules.specs.Invariant.{settledBy, settledTrain, believedBy, believedTrain, withTrains, Invariant}
 use Rattle.rules.proofs.Tests.{cond-each}
 use Rattle.rules.proofs.Rows.{list-length, list-at, list-same, list-all}
@@ -86,12 +86,17 @@ pub around-alike : (t : Table) (routes : List ℕ) (i : ℕ) {r x : Train} → A
 unfolding aroundOn
 around-alike t routes i h = rw (h .direction, h .place, h .covered)
 
+pub address-alike : (t : Table) (routes : List ℕ) (i : ℕ) {r x : Train} → Alike r x → (q : Request)
+    → first (addressRows (aroundTrain t routes i x) x q) ≡ 0 → first (addressRows (aroundTrain t routes i r) r q) ≡ 0
+unfolding addressRows atEnd
+address-alike t routes i h q e = rw (around-alike t routes i h, h .place, h .length) e
+
 -- What a train keeps with another message, when it records a holding or drops the record, when it sends, and when it hears an answer.
 pub message-alike : (r : Train) (g : Message) → Alike (withMessage r g) r
 unfolding withMessage
 message-alike r g = record { direction = refl; length = refl; place = refl; covered = refl }
 
-holding-alike : (v : Around) {r x : Train} (h : Holding) → Alike r x → Alike (withHolding v r h) x
+pub holding-alike : (v : Around) {r x : Train} (h : Holding) → Alike r x → Alike (withHolding v r h) x
 unfolding withHolding
 holding-alike v (NextAt b) h = record { direction = h .direction; length = h .length; place = h .place; covered = h .covered }
 holding-alike v (LockAt b) h = record { direction = h .direction; length = h .length; place = h .place; covered = h .covered }
@@ -101,7 +106,7 @@ unfolding withoutHolding
 without-alike v r (NextAt b) = record { direction = refl; length = refl; place = refl; covered = refl }
 without-alike v r (LockAt b) = record { direction = refl; length = refl; place = refl; covered = refl }
 
-holding-message : (v : Around) (r : Train) (h : Holding) → withHolding v r h .message ≡ r .message
+pub holding-message : (v : Around) (r : Train) (h : Holding) → withHolding v r h .message ≡ r .message
 unfolding withHolding
 holding-message v r (NextAt b) = refl
 holding-message v r (LockAt b) = refl
@@ -235,7 +240,7 @@ module _ {f : Around → Train → Train} (k : Quiets f) (l : Line) where
 
     -- The line with train i, or train i and box b, put back.
     module _ (r : Train) where
-      train-put-quiet : withTrains f (putTrain l i r) ≡ putTrain (withTrains f l) i (f (aroundTrain (l .table) (l .routes) i r) r)
+      pub train-put-quiet : withTrains f (putTrain l i r) ≡ putTrain (withTrains f l) i (f (aroundTrain (l .table) (l .routes) i r) r)
       unfolding withTrains putTrain trainAt around
       train-put-quiet = rw (each-set (λ j z. f (aroundTrain (l .table) (l .routes) j z) z) noTrain (l .trains) i r)
 

@@ -66,21 +66,21 @@ enter-idle {l} {s} h e = go (trainAt l (s .train) .message) refl
     go (Answered q c) m = absurd (closed q (rw m answered))
 
 -- A train with another message has that message, and the same records; without a message it is as it was if it had none.
-message-now : (r : Train) (g : Message) → withMessage r g .message ≡ g
+pub message-now : (r : Train) (g : Message) → withMessage r g .message ≡ g
 unfolding withMessage
 message-now r g = refl
 
-gone-recorded : (v : Around) (r : Train) (h : Holding) → recorded v (withMessage r Idle) h ≡ recorded v r h
+pub message-recorded : (v : Around) (r : Train) (g : Message) (h : Holding) → recorded v (withMessage r g) h ≡ recorded v r h
 unfolding recorded withMessage
-gone-recorded v r (NextAt b) = refl
-gone-recorded v r (LockAt b) = refl
+message-recorded v r g (NextAt b) = refl
+message-recorded v r g (LockAt b) = refl
 
-message-gone : (r : Train) → r .message ≡ Idle → withMessage r Idle ≡ r
+pub message-gone : (r : Train) → r .message ≡ Idle → withMessage r Idle ≡ r
 unfolding withMessage
 message-gone r e = rw (sym e)
 
 -- A request that is sent can be made again once its message is gone: one for what is not recorded, and a give-back of what is.
-request-free
+pub request-free
     : (t : Table) (routes : List ℕ) (i : ℕ) (r : Train) (q : Request) {x : Train}
     → first (addressRows (aroundTrain t routes i r) r q) ≡ 0 → Alike x r → x .message ≡ Idle
     → recorded (aroundTrain t routes i r) x (holding q) ≡ givesBack q
@@ -170,7 +170,7 @@ module _ {f : Around → Train → Train} (k : Quiets f) {l : Line} {s : Step} w
         let asked : Open q (r .message) = rw (w .sent) sent in
         rw (around-quiet k l i, train-quiet k, k .asked _ r q n (w .sent))
         (request-free (l .table) (l .routes) i r q (addressed-open h i (w .train) q asked) (message-alike r Idle) (message-now r Idle)
-        (gone-recorded _ r (holding q) ∙ h .unrecorded i (w .train) q asked ∙ sym n))
+        (message-recorded _ r Idle (holding q) ∙ h .unrecorded i (w .train) q asked ∙ sym n))
 
     pub enter-quiet : Enters l s → withTrains f (afterEnter l (s .train)) ≡ afterEnter (withTrains f l) (s .train)
     unfolding entered

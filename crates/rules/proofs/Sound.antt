@@ -44,23 +44,23 @@ pub record BoxSound (k : ℕ) (p : BoxPlan) (x : SwitchBox) : Type 0 where
 -- An open message has a request that codes 16 and 17 do not stop, and an answer has one of its box's codes.
 pub data MessageSound (v : Around) (r : Train) : Message → Type 0 where
   silent : MessageSound v r Idle
-  asking : {q : Request} → first (addressRows v r q) ≡ 0 → MessageSound v r (Sent q)
+  onItsWay : {q : Request} → first (addressRows v r q) ≡ 0 → MessageSound v r (Sent q)
   answering : {q : Request} {c : ℕ} → first (addressRows v r q) ≡ 0 → answerCode q c ≡ true → MessageSound v r (Answered q c)
 
 message-iff : (v : Around) (r : Train) (g : Message) → (messageFault v r g ≡ false) ↔ MessageSound v r g
 unfolding messageFault addressFault
 message-iff v r Idle = (λ _. silent, λ _. refl)
-message-iff v r (Sent q) = simp facts (asking, back)
+message-iff v r (Sent q) = simp facts (onItsWay, back)
   where
     back : MessageSound v r (Sent q) → first (addressRows v r q) ≡ 0
-    back (asking e) = e
+    back (onItsWay e) = e
 message-iff v r (Answered q c) = simp facts (λ (e, f). answering e f, back)
   where
     back : MessageSound v r (Answered q c) → (first (addressRows v r q) ≡ 0) × (answerCode q c ≡ true)
     back (answering e f) = (e, f)
 
 pub open-address : {v : Around} {r : Train} {g : Message} {q : Request} → MessageSound v r g → Open q g → first (addressRows v r q) ≡ 0
-open-address (asking e) sent = e
+open-address (onItsWay e) sent = e
 open-address (answering e f) answered = e
 
 pub record LineSound (l : Line) : Type 0 where

@@ -8,19 +8,21 @@ use lib.Dec.{eqb}
 use Rattle.rules.specs.declared.BoxPlan.{BoxPlan}
 use Rattle.rules.specs.declared.Table.{Table}
 use Rattle.rules.specs.declared.SwitchBox.{SwitchBox}
+use Rattle.rules.specs.declared.Holding.{Holding}
+use Rattle.rules.specs.declared.Holding.the-variants.{NextAt, LockAt}
 use Rattle.rules.specs.declared.Request.{Request}
-use Rattle.rules.specs.declared.Request.the-variants.{Reserve, Lock}
+use Rattle.rules.specs.declared.Request.the-variants.{Reserve, Lock, GiveBack, Unlock}
 use Rattle.rules.specs.declared.Train.{Train}
 use Rattle.rules.specs.Rows.{_if_, first}
 use Rattle.rules.specs.Track.{planAt, isPoint}
 use Rattle.rules.specs.declared.Around.{Around}
 use Rattle.rules.specs.Line.{aroundOn, aroundTrain, requestBox, setHolder}
-use Rattle.rules.specs.Steps.{addressRows, boxRows, granted, sensed, released}
+use Rattle.rules.specs.Steps.{addressRows, addressed, holding, givesBack, grantRows, boxRows, lockGiven, given, freed, granted, sensed, released}
 use Rattle.rules.specs.Record.{answerCode}
 use Rattle.rules.proofs.Tests.{cond-each}
 use Rattle.rules.proofs.Boxes.{position-fits}
 use Rattle.rules.proofs.Sound.{BoxSound}
-use Rattle.rules.proofs.StepRows.{address-iff, lock-address-iff}
+use Rattle.rules.proofs.StepRows.{address-iff, lock-address-iff, granted-each}
 
 -- A box's answer has one of its codes.
 reserve-code : (b : ℕ) (c : Bool) → answerCode (Reserve b) (first (22 if c ∷ [])) ≡ true
@@ -35,10 +37,19 @@ lock-code b false true e = refl
 lock-code b false false true = refl
 lock-code b false false false = refl
 
+yes-code : (q : Request) → answerCode q (first []) ≡ true
+unfolding answerCode first
+yes-code (Reserve b) = refl
+yes-code (Lock b) = refl
+yes-code (GiveBack b) = refl
+yes-code (Unlock b) = refl
+
 pub answer-code : (v : Around) (p : BoxPlan) (x : SwitchBox) (q : Request) → answerCode q (first (boxRows v p x q)) ≡ true
-unfolding boxRows
+unfolding boxRows grantRows holding givesBack
 answer-code v p x (Reserve b) = reserve-code b _
 answer-code v p x (Lock b) = lock-code b _ _ _
+answer-code v p x (GiveBack b) = yes-code (GiveBack b)
+answer-code v p x (Unlock b) = yes-code (Unlock b)
 
 -- Boxes after a grant, an Enter and a Clear.
 module _ {k : ℕ} {p : BoxPlan} {x : SwitchBox} (h : BoxSound k p x) where
@@ -56,9 +67,8 @@ module _ {k : ℕ} {p : BoxPlan} {x : SwitchBox} (h : BoxSound k p x) where
       chosen : (place : ℕ) {y : ℕ} → y ≤ k → cond (eqb s place) i y ≤ k
       chosen place {y} e = cond-each (λ n. n ≤ k) (eqb s place) i y (λ _. low) (λ _. e)
 
-  lock-sound : (v : Around) (b : ℕ) → v .number ≤ k → isPoint p ≡ true → BoxSound k p (granted v p x (Lock b))
-  unfolding granted
-  lock-sound v b low point =
+  lock-sound : (v : Around) → v .number ≤ k → isPoint p ≡ true → BoxSound k p (lockGiven v p x)
+  lock-sound v low point =
       record {
         position = position-fits p (v .front) (v .next) point;
         lock = low;
@@ -66,6 +76,11 @@ module _ {k : ℕ} {p : BoxPlan} {x : SwitchBox} (h : BoxSound k p x) where
         left = h .left;
         right = h .right;
       }
+
+  freed-sound : (v : Around) (z : Holding) → BoxSound k p (freed v p x z)
+  unfolding freed
+  freed-sound v (NextAt b) = holder-sound _ 0 (omega arith)
+  freed-sound v (LockAt b) = record { position = h .position; lock = omega arith; stem = h .stem; left = h .left; right = h .right }
 
   pub sensed-sound : BoxSound k p (sensed x)
   unfolding sensed
@@ -79,13 +94,24 @@ released-sound {k} {p} {x} h s z =
     holder-sound (holder-sound free s 0 (omega arith)) z 0 (omega arith)
 
 -- The box that train i's request is made at, after its yes.
-pub granted-sound
-    : (t : Table) (routes : List ℕ) (i : ℕ) (r : Train) (q : Request) {k : ℕ} {x : SwitchBox}
-    → BoxSound k (planAt t (requestBox q)) x → i ≤ k → first (addressRows (aroundTrain t routes i r) r q) ≡ 0
-    → BoxSound k (planAt t (requestBox q)) (granted (aroundTrain t routes i r) (planAt t (requestBox q)) x q)
-unfolding requestBox aroundOn granted
-granted-sound t routes i r (Reserve b) h low e = holder-sound h _ _ low
-granted-sound t routes i r (Lock b) h low e =
-    let (next, at) = address-iff (aroundTrain t routes i r) r (Lock b) .0 e in
-    let (here, point) = lock-address-iff (aroundTrain t routes i r) b .0 at in
-    lock-sound h (aroundTrain t routes i r) b low (rw here point)
+module _ (t : Table) (routes : List ℕ) (i : ℕ) (r : Train) {k : ℕ} {x : SwitchBox} (low : i ≤ k) where
+  lock-given-sound : (b : ℕ) → BoxSound k (planAt t b) x → addressed (aroundTrain t routes i r) (LockAt b) ≡ true
+      → BoxSound k (planAt t b) (lockGiven (aroundTrain t routes i r) (planAt t b) x)
+  unfolding aroundOn
+  lock-given-sound b h at =
+      let (here, point) = lock-address-iff (aroundTrain t routes i r) b .0 at in
+      lock-sound h (aroundTrain t routes i r) low (rw here point)
+
+  given-sound : (q : Request) → BoxSound k (planAt t (requestBox q)) x → addressed (aroundTrain t routes i r) (holding q) ≡ true
+      → BoxSound k (planAt t (requestBox q)) (given (aroundTrain t routes i r) (planAt t (requestBox q)) x (holding q))
+  unfolding requestBox holding given aroundOn
+  given-sound (Reserve b) h at = holder-sound h _ _ low
+  given-sound (Lock b) h at = lock-given-sound b h at
+  given-sound (GiveBack b) h at = holder-sound h _ _ low
+  given-sound (Unlock b) h at = lock-given-sound b h at
+
+  pub granted-sound : (q : Request) → BoxSound k (planAt t (requestBox q)) x → first (addressRows (aroundTrain t routes i r) r q) ≡ 0
+      → BoxSound k (planAt t (requestBox q)) (granted (aroundTrain t routes i r) (planAt t (requestBox q)) x q)
+  granted-sound q h e =
+      granted-each (BoxSound k (planAt t (requestBox q))) _ _ x q (λ _. given-sound q h (address-iff _ r q .0 e .1))
+      (λ _ _. freed-sound h _ (holding q)) h

@@ -10,13 +10,14 @@ use Rattle.rules.specs.declared.Table.{Table}
 use Rattle.rules.specs.declared.SwitchBox.{SwitchBox}
 use Rattle.rules.specs.declared.Message.the-variants.{Idle}
 use Rattle.rules.specs.declared.Train.{Train}
+use Rattle.rules.specs.declared.Around.{Around}
 use Rattle.rules.specs.Track.{planAt, trainPlanAt, Track, trackOf, farBox}
 use Rattle.rules.specs.Network.{lists}
 use Rattle.rules.specs.Line.{noBox, noTrain, boxAt, trainAt, holderOf, startTrain, startsOn, startHolder, startBoxWith, startBox, startLine}
 use Rattle.rules.specs.Record.{messageFault, recordFault}
 use Rattle.rules.specs.History.{startPlace}
 use Rattle.rules.specs.Safety.{TrainOf, Covers, Crosses, onRoute}
-use Rattle.rules.specs.Invariant.{settled, Needs, ahead, crossed, nearRecorded, farRecorded, NeedsLock, crossedPoint, lockRecorded, Fitting, Invariant}
+use Rattle.rules.specs.Invariant.{withTrains, Needs, ahead, crossed, nearRecorded, farRecorded, NeedsLock, crossedPoint, lockRecorded, Fitting, Invariant}
 use Rattle.rules.proofs.Tests.{facts, not-passed, cond-each}
 use Rattle.rules.proofs.Rows.{filled-length, filled-record, filled-each}
 use Rattle.rules.proofs.Accepted.{Accepted, BoxOf}
@@ -24,7 +25,7 @@ use Rattle.rules.proofs.Boxes.{far-box, far-listed}
 use Rattle.rules.proofs.Frames.{holder-read}
 use Rattle.rules.proofs.Sound.{silent, sound-iff}
 use Rattle.rules.proofs.StepRows.{not-open}
-use Rattle.rules.proofs.Settled.{settled-line}
+use Rattle.rules.proofs.Settled.{Quiets, settling, line-quiet}
 
 -- The train that a segment is reserved for at the start: one of the trains looked at, or nobody; and the only one of them that
 -- starts there.
@@ -98,13 +99,13 @@ module _ (t : Table) (a : Accepted t) where
       filled-each (startBox t) noBox 96 (t .m) P (a .limits .boxesHigh)
       (λ b l h. these b (record { low = l; high = h })) none
 
-  -- No train has a message, so the line is settled. No sensor is active, and no lock is held.
+  -- No train has a message, so there is none to take away. No sensor is active, and no lock is held.
   pub start-message : (i : ℕ) → trainAt (startLine t) i .message ≡ Idle
   unfolding startTrain
   start-message = each-start-train (λ r. r .message ≡ Idle) (λ i h. refl) refl
 
-  pub settled-start : settled (startLine t) ≡ startLine t
-  settled-start = settled-line (startLine t) start-message
+  pub quiet-start : {f : Around → Train → Train} → Quiets f → withTrains f (startLine t) ≡ startLine t
+  quiet-start k = line-quiet k (startLine t) start-message
 
   start-sensor : (b : ℕ) → boxAt (startLine t) b .sensor ≡ false
   unfolding startBox startBoxWith
@@ -192,5 +193,5 @@ module _ (t : Table) (a : Accepted t) where
         trains = filled-length 16 noTrain _;
         sound = start-sound;
         unrecorded = λ i h q o. absurd (not-open (start-message i) o);
-        fitting = rw settled-start start-fitting;
+        fitting = rw (quiet-start settling) start-fitting;
       }

@@ -5,7 +5,9 @@ use mathlib.Core.Logic.{_↔_, Iff·rfl, _≢_}
 use mathlib.Core.Bool.{Bool, true, false, not, _&&_, false≢true}
 use mathlib.Core.List.{List, [], _∷_}
 use native.Mathlib.Omega.{arith}
+use Rattle.rules.specs.declared.BoxPlan.{BoxPlan}
 use Rattle.rules.specs.declared.Table.{Table}
+use Rattle.rules.specs.declared.SwitchBox.{SwitchBox}
 use Rattle.rules.specs.declared.Holding.{Holding}
 use Rattle.rules.specs.declared.Holding.the-variants.{NextAt, LockAt}
 use Rattle.rules.specs.declared.Request.{Request}
@@ -15,9 +17,9 @@ use Rattle.rules.specs.declared.Train.{Train}
 use Rattle.rules.specs.Rows.{_if_, first}
 use Rattle.rules.specs.declared.Around.{Around}
 use Rattle.rules.specs.Line.{aroundOn, aroundTrain}
-use Rattle.rules.specs.Steps.{isOpen, holding, givesBack, addressed, recorded, atEnd, addressRows, recordRows, requestRows, enterRows, clearRows, another}
+use Rattle.rules.specs.Steps.{isOpen, holding, givesBack, addressed, recorded, atEnd, addressRows, recordRows, requestRows, stands, given, freed, granted, enterRows, clearRows, another}
 use Rattle.rules.specs.Invariant.{Open, sent, answered}
-use Rattle.rules.proofs.Tests.{facts, implies-iff, first-none, first-zero-iff}
+use Rattle.rules.proofs.Tests.{facts, cond-each, implies-iff, first-none, first-zero-iff}
 
 -- A holder that is nobody else than train i.
 pub another-false-iff : (i holder : ℕ) → (another i holder ≡ false) ↔ (holder ≢ 0 → holder ≡ i)
@@ -100,6 +102,15 @@ module _ (t : Table) (routes : List ℕ) (i : ℕ) (r : Train) (covered : ℕ) (
 pub lock-address-iff : (v : Around) (b : ℕ) → (addressed v (LockAt b) ≡ true) ↔ ((b ≡ v .ahead) × (v .point ≡ true))
 unfolding addressed
 lock-address-iff v b = simp facts Iff·rfl
+
+-- What holds of a box with what is asked for given to the train, of one with what was the train's freed, and of the box as it was,
+-- holds of it after its yes.
+pub granted-each : (P : SwitchBox → Type 0) (v : Around) (p : BoxPlan) (x : SwitchBox) (q : Request)
+    → (givesBack q ≡ false → P (given v p x (holding q)))
+    → (givesBack q ≡ true → stands v p x (holding q) ≡ true → P (freed v p x (holding q))) → P x → P (granted v p x q)
+unfolding granted
+granted-each P v p x q asks gives same =
+    cond-each P (givesBack q) _ _ (λ e. cond-each P (stands v p x (holding q)) _ _ (gives e) (λ _. same)) asks
 
 -- Enter: the train is single, has a next, and has recorded what it needs.
 pub enter-iff : (v : Around) (r : Train)

@@ -22,8 +22,8 @@ farther = passage ++ asked 1 1 3 ++ asked 1 1 4 ++ asked 2 1 3 ++ (stepOf 5 1 0 
 
 unfoldable pub refusalCases : List Case
 refusalCases =
-    -- 13: kinds 0, 7 and 255, and a box byte in each of the kinds 3 to 6, all before 14.
-    answersTo tableS (stepOf 0 0 0 ∷ stepOf 7 1 0 ∷ stepOf 255 3 0 ∷ []) gives (13 ∷ 13 ∷ 13 ∷ [])
+    -- 13: kinds 0, 9 and 255, and a box byte in each of the kinds 3 to 6, all before 14.
+    answersTo tableS (stepOf 0 0 0 ∷ stepOf 9 1 0 ∷ stepOf 255 3 0 ∷ []) gives (13 ∷ 13 ∷ 13 ∷ [])
     ∷ answersTo tableS (stepOf 3 9 1 ∷ stepOf 4 1 1 ∷ stepOf 5 1 255 ∷ stepOf 6 1 1 ∷ []) gives (13 ∷ 13 ∷ 13 ∷ 13 ∷ [])
     -- 14: trains 0, 3 and 255, in each kind.
     ∷ answersTo tableS (stepOf 1 0 2 ∷ stepOf 2 3 2 ∷ stepOf 3 3 0 ∷ stepOf 4 0 0 ∷ stepOf 5 3 0 ∷ stepOf 6 255 0 ∷ [])

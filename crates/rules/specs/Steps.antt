@@ -96,6 +96,11 @@ givesBack (Lock b) = false
 givesBack (GiveBack b) = true
 givesBack (Unlock b) = true
 
+-- The box that it is held at.
+unfoldable pub holdingBox : Holding → ℕ
+holdingBox (NextAt b) = b
+holdingBox (LockAt b) = b
+
 -- A request about it may be made at its box. A reservation: at an end of next. A lock: at the box ahead, a point.
 unfoldable pub addressed : Around → Holding → Bool
 addressed v (NextAt b) = eqb b (v .nearEnd) || eqb b (v .farEnd)

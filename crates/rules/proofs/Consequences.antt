@@ -1,38 +1,45 @@
 -- What else holds after every list of steps.
 use Prim.Native.Nat.{ℕ}
-use mathlib.Core.Path.{_≡_, refl, sym, _∙_}
+use mathlib.Core.Path.{_≡_, refl, sym, _∙_, ap}
 use mathlib.Core.Logic.{_≢_}
-use mathlib.Core.Bool.{Bool, true, false, cond}
+use mathlib.Core.Bool.{Bool, true, false, cond, false≢true}
 use mathlib.Core.List.{[], _∷_}
 use native.Mathlib.Omega.{arith}
+use borrow.Author.Tests.{eqb-true}
 use Rattle.rules.specs.declared.BoxPlan.{BoxPlan}
 use Rattle.rules.specs.declared.SwitchBox.{SwitchBox}
 use Rattle.rules.specs.declared.Holding.{Holding}
 use Rattle.rules.specs.declared.Holding.the-variants.{NextAt, LockAt}
 use Rattle.rules.specs.declared.Request.{Request}
-use Rattle.rules.specs.declared.Message.the-variants.{Idle}
+use Rattle.rules.specs.declared.Request.the-variants.{Reserve, Lock, GiveBack, Unlock}
+use Rattle.rules.specs.declared.Message.{Message}
+use Rattle.rules.specs.declared.Message.the-variants.{Idle, Sent, Answered}
+use Rattle.rules.specs.declared.Train.{Train}
 use Rattle.rules.specs.declared.Line.{Line}
 use Rattle.rules.specs.declared.Outcome.{Outcome}
 use Rattle.rules.specs.Rows.{_if_, first}
 use Rattle.rules.specs.File.{decode}
 use Rattle.rules.specs.declared.Around.{Around}
 use Rattle.rules.specs.Line.{startLine, aroundOn, around, boxAt, trainAt, messageBox}
-use Rattle.rules.specs.Steps.{Step, holding, givesBack, holdingBox, addressed, another, grantRows, boxRows, step}
+use Rattle.rules.specs.Steps.{Step, holding, givesBack, holdingBox, addressed, another, grantRows, boxRows, apply, reply, boxAnswers, formed, effect, step}
+use Rattle.rules.specs.Record.{answerCode}
 use Rattle.rules.specs.Safety.{TrainOf, reached}
 use Rattle.rules.specs.Invariant.{CrossesAt, crossedPoint, settled, sent, Invariant}
 use Rattle.rules.specs.Consequences.{AlsoHolds}
-use Rattle.rules.proofs.Tests.{facts, first-none}
+use Rattle.rules.proofs.Tests.{facts, first-none, outside-false-iff}
 use Rattle.rules.proofs.Files.{file-iff}
+use Rattle.rules.proofs.Sound.{MessageSound, answering}
+use Rattle.rules.proofs.Steps.{step-taken}
 use Rattle.rules.proofs.StepKinds.{request-kind, Answers, Does, refuses, sends, denies, grants, hears, enters, clears, does}
 use Rattle.rules.proofs.StepRows.{address-iff, lock-address-iff}
 use Rattle.rules.proofs.Holdings.{request-box}
 use Rattle.rules.proofs.Change.{Steady, ahead-uncrossed}
-use Rattle.rules.proofs.Settled.{settling, table-quiet, around-quiet, box-quiet}
+use Rattle.rules.proofs.Settled.{line-sound, settling, table-quiet, around-quiet, box-quiet}
 use Rattle.rules.proofs.SettledSteps.{addressed-open, enter-idle}
 use Rattle.rules.proofs.Keeps.{steady}
 use Rattle.rules.proofs.Moves.{other-trains, other-boxes}
 use Rattle.rules.proofs.Checked.{checked-line, checked-events}
-use Rattle.rules.proofs.Demand3.{invariant-after}
+use Rattle.rules.proofs.Demand3.{invariant-after, line-fixed, same-atomic}
 
 -- Kind 3 gives 23 only as a box's answer.
 answers-23 : {l : Line} {s : Step} {o : Outcome} → Does l s o → s .kind ≡ 3 → o .code ≡ 23 → (q : Request) × Answers l s q 23
@@ -112,11 +119,37 @@ silent h s o (hears w) kind code = absurd (omega arith)
 silent h s o (enters w) kind code = enter-idle h w
 silent h s o (clears w) kind code = absurd (omega arith)
 
+-- A box answers a give-back with 0, and no other answer to it is on its way.
+answered-yes : (l : Line) (s : Step) (q : Request) → s .kind ≡ 3 → s .box ≡ 0 → TrainOf (l .table) (s .train)
+    → trainAt l (s .train) .message ≡ Sent q → givesBack q ≡ true → step l s .code ≡ 0
+unfolding effect boxAnswers reply boxRows apply formed
+answered-yes l s q kind box k asked gives =
+    let form : formed (s .kind) (s .box) ≡ true = rw (kind, box) in
+    ap (λ (o : Outcome). o .code) (sym (step-taken l s form (outside-false-iff _ _ .1 (k .low, k .high)))) ∙ rw (kind, asked, gives) first-none
+
+zero-answer : (q : Request) (c : ℕ) → givesBack q ≡ true → answerCode q c ≡ true → c ≡ 0
+unfolding givesBack answerCode
+zero-answer (Reserve b) c gives e = absurd (false≢true gives)
+zero-answer (Lock b) c gives e = absurd (false≢true gives)
+zero-answer (GiveBack b) c gives e = eqb-true c 0 e
+zero-answer (Unlock b) c gives e = eqb-true c 0 e
+
+heard-yes : {l : Line} → Invariant l → (i : ℕ) → TrainOf (l .table) i → (q : Request) (c : ℕ)
+    → trainAt l i .message ≡ Answered q c → givesBack q ≡ true → c ≡ 0
+heard-yes {l} h i k q c e gives = zero-answer q c gives (by (trainAt l i .message) e (line-sound h .messages i k))
+  where
+    told : {v : Around} {r : Train} → MessageSound v r (Answered q c) → answerCode q c ≡ true
+    told (answering _ code) = code
+
+    by : {v : Around} {r : Train} (g : Message) → g ≡ Answered q c → MessageSound v r g → answerCode q c ≡ true
+    by g e m = told (rw e at m)
+
 pub consequences : AlsoHolds
 consequences bytes e steps =
     let t = decode bytes in
     let after = invariant-after (file-iff bytes .0 e .table) in
     let h = after steps in
+    let known : (i : ℕ) → TrainOf t i → TrainOf (reached t steps .table) i = λ i k. rw (line-fixed (file-iff bytes .0 e .table) steps .table) k in
     record {
       invariant = h;
       sound = h .sound;
@@ -124,6 +157,9 @@ consequences bytes e steps =
       checkedEvents = checked-events (startLine t) (λ z. after z .sound) steps;
       occupied = lock-held h;
       silent = λ s. silent h s _ (does (reached t steps) s);
+      atomicLine = same-atomic (file-iff bytes .0 e .table) steps;
+      answeredYes = λ s q kind box k. answered-yes (reached t steps) s q kind box (known (s .train) k);
+      heardYes = λ i k. heard-yes h i (known i k);
       otherTrains = λ s. other-trains (does (reached t steps) s);
       otherBoxes = λ s. other-boxes (does (reached t steps) s);
     }

@@ -144,7 +144,7 @@ module _ {t : Table} (a : Accepted t) where
     unfolding order
     nothing-stopped = rw (quiet-start t a believing) at (from-start steps .unstopped)
 
-    line-fixed : Fixed t (reached t steps)
+    pub line-fixed : Fixed t (reached t steps)
     line-fixed = from-start steps .fixed t start-fixed
 
     line-place : (i : ℕ) → TrainOf t i → placeOf (reached t steps) i ≡ whereIs t steps i

@@ -2,17 +2,23 @@
 use Prim.Native.Nat.{ℕ}
 use mathlib.Core.Path.{_≡_}
 use mathlib.Core.Logic.{_≢_}
-use mathlib.Core.Bool.{true, false}
-use mathlib.Core.List.{List}
+use mathlib.Core.Bool.{Bool, true, false, _&&_, _||_}
+use mathlib.Core.List.{List, [], _∷_}
+use lib.Dec.{eqb}
 use Rattle.rules.specs.declared.Table.{Table}
-use Rattle.rules.specs.declared.Message.the-variants.{Idle}
+use Rattle.rules.specs.declared.Holding.{Holding}
+use Rattle.rules.specs.declared.Holding.the-variants.{NextAt, LockAt}
+use Rattle.rules.specs.declared.Request.{Request}
+use Rattle.rules.specs.declared.Message.the-variants.{Idle, Sent, Answered}
+use Rattle.rules.specs.declared.Line.{Line}
 use Rattle.rules.specs.File.{fileCode, decode}
-use Rattle.rules.specs.Line.{startLine, boxAt, trainAt, messageBox}
-use Rattle.rules.specs.Steps.{Step, another, step}
+use Rattle.rules.specs.Track.{planAt}
+use Rattle.rules.specs.Line.{startLine, around, boxAt, trainAt, messageBox}
+use Rattle.rules.specs.Steps.{Step, holding, givesBack, holdingBox, another, stands, step}
 use Rattle.rules.specs.Record.{recordFault, checkedStep}
-use Rattle.rules.specs.History.{lineAfter, events}
-use Rattle.rules.specs.Safety.{reached, history}
-use Rattle.rules.specs.Invariant.{Invariant}
+use Rattle.rules.specs.History.{Event, lineAfter, events, accepted}
+use Rattle.rules.specs.Safety.{TrainOf, reached, history, atomic}
+use Rattle.rules.specs.Invariant.{believed, Invariant}
 
 pub record Consequences (t : Table) (steps : List Step) : Type 0 where
   -- The invariant holds. So the record check finds nothing, and calls that begin with it give the same line and the same answers.
@@ -27,6 +33,15 @@ pub record Consequences (t : Table) (steps : List Step) : Type 0 where
   -- No message is open where a train enters.
   pub silent
       : (s : Step) → s .kind ≡ 5 → step (reached t steps) s .code ≡ 0 → trainAt (reached t steps) (s .train) .message ≡ Idle
+  -- The atomic line is the line as its trains believe it: its trains have recorded what theirs have, what a yes on its way will
+  -- record, and what they are giving back until the box has answered.
+  pub atomicLine : atomic t steps ≡ believed (reached t steps)
+  -- A box answers a give-back with 0, and so does the train hear it.
+  pub answeredYes
+      : (s : Step) (q : Request) → s .kind ≡ 3 → s .box ≡ 0 → TrainOf t (s .train)
+      → trainAt (reached t steps) (s .train) .message ≡ Sent q → givesBack q ≡ true → step (reached t steps) s .code ≡ 0
+  pub heardYes
+      : (i : ℕ) → TrainOf t i → (q : Request) (c : ℕ) → trainAt (reached t steps) i .message ≡ Answered q c → givesBack q ≡ true → c ≡ 0
   -- A step changes no other train, and at most one box.
   pub otherTrains
       : (s : Step) (j : ℕ) → j ≢ s .train → trainAt (step (reached t steps) s .line) j ≡ trainAt (reached t steps) j

@@ -4,7 +4,7 @@ use Prim.Native.Nat.{ℕ}
 use mathlib.Core.Bool.{Bool, true, false}
 use mathlib.Core.List.{List, [], _∷_, _++_}
 use lib.ListN.{set, replicate}
-use Rattle.rules.specs.declared.Request.the-variants.{Reserve, Lock}
+use Rattle.rules.specs.declared.Request.the-variants.{Reserve, Lock, GiveBack, Unlock}
 use Rattle.rules.specs.declared.Message.{Message}
 use Rattle.rules.specs.declared.Message.the-variants.{Idle, Sent, Answered}
 use Rattle.rules.specs.declared.SwitchBox.{SwitchBox}
@@ -167,6 +167,14 @@ recordCases =
     ∷ heardOn (withTrain 0 3 1 1 (Answered (Lock 2) 25)) gives (25 ∷ [])
     ∷ heardOn (withTrain 0 3 1 1 (Answered (Lock 2) 26)) gives (27 ∷ [])
     ∷ heardOn (withTrain 0 3 1 1 (Answered (Lock 2) 22)) gives (27 ∷ [])
+    -- Give-backs: 16 and 17 as for requests, and 0 alone as an answer.
+    ∷ heardOn (withTrain 0 3 1 1 (Sent (GiveBack 3))) gives (21 ∷ [])
+    ∷ heardOn (withTrain 0 3 1 1 (Sent (GiveBack 4))) gives (27 ∷ [])
+    ∷ heardOn (withTrain 0 3 1 1 (Sent (Unlock 3))) gives (27 ∷ [])
+    ∷ heardOn (withTrain 0 3 3 1 (Answered (GiveBack 3) 0)) gives (27 ∷ [])
+    ∷ heardOn (withTrain 0 3 1 1 (Answered (GiveBack 2) 22)) gives (27 ∷ [])
+    ∷ heardOn (withTrain 0 3 1 1 (Answered (Unlock 2) 0)) gives (0 ∷ [])
+    ∷ heardOn (withTrain 0 3 1 1 (Answered (Unlock 2) 24)) gives (27 ∷ [])
     -- 27 before 13, and the record as it was.
     ∷ checked emptyLine (stepOf 0 0 0) gives (27 ∷ [])
     ∷ checkedTrain (withTrain 0 3 1 2 (Sent (Reserve 2))) (stepOf 3 1 0) 1
@@ -223,6 +231,21 @@ madeUpCases =
     ∷ checked (asking (Sent (Reserve 2)) 0 1 1) (stepOf 3 1 0) gives (0 ∷ [])
     ∷ checked (asking (Sent (Lock 2)) 1 1 1) (stepOf 3 1 0) gives (0 ∷ [])
     ∷ checked (asking (Sent (Lock 2)) 0 0 1) (stepOf 3 1 0) gives (25 ∷ [])
+    -- A give-back drops one record when it is sent; the box frees what is the train's own, and not what is another's or free; the yes
+    -- to it is not recorded.
+    ∷ checkedTrain (putTrain startS 1 (made 0 3 1 1 true true true Idle)) (stepOf 7 1 2) 1
+    gives (0 ∷ 0 ∷ 3 ∷ 1 ∷ 1 ∷ 0 ∷ 1 ∷ 1 ∷ 1 ∷ 7 ∷ 2 ∷ 0 ∷ [])
+    ∷ checkedTrain (putTrain startS 1 (made 0 3 1 1 true true true Idle)) (stepOf 7 1 3) 1
+    gives (0 ∷ 0 ∷ 3 ∷ 1 ∷ 1 ∷ 1 ∷ 0 ∷ 1 ∷ 1 ∷ 7 ∷ 3 ∷ 0 ∷ [])
+    ∷ checkedTrain (putTrain startS 1 (made 0 3 1 1 true true true Idle)) (stepOf 8 1 2) 1
+    gives (0 ∷ 0 ∷ 3 ∷ 1 ∷ 1 ∷ 1 ∷ 1 ∷ 0 ∷ 1 ∷ 8 ∷ 2 ∷ 0 ∷ [])
+    ∷ checkedBox (asking (Sent (GiveBack 2)) 1 1 1) (stepOf 3 1 0) 2 gives (0 ∷ 0 ∷ 1 ∷ 1 ∷ 1 ∷ 0 ∷ 0 ∷ [])
+    ∷ checkedBox (asking (Sent (GiveBack 2)) 1 1 2) (stepOf 3 1 0) 2 gives (0 ∷ 0 ∷ 1 ∷ 1 ∷ 1 ∷ 2 ∷ 0 ∷ [])
+    ∷ checkedBox (asking (Sent (GiveBack 2)) 2 2 0) (stepOf 3 1 0) 2 gives (0 ∷ 0 ∷ 1 ∷ 2 ∷ 2 ∷ 0 ∷ 0 ∷ [])
+    ∷ checkedBox (asking (Sent (Unlock 2)) 1 1 1) (stepOf 3 1 0) 2 gives (0 ∷ 0 ∷ 1 ∷ 0 ∷ 1 ∷ 1 ∷ 0 ∷ [])
+    ∷ checkedBox (asking (Sent (Unlock 2)) 2 1 1) (stepOf 3 1 0) 2 gives (0 ∷ 0 ∷ 1 ∷ 2 ∷ 1 ∷ 1 ∷ 0 ∷ [])
+    ∷ checkedTrain (asking (Sent (Unlock 2)) 2 1 1) (stepOf 3 1 0) 1 gives (0 ∷ 0 ∷ 3 ∷ 1 ∷ 1 ∷ 0 ∷ 0 ∷ 0 ∷ 2 ∷ 8 ∷ 2 ∷ 0 ∷ [])
+    ∷ checkedTrain (withTrain 0 3 1 1 (Answered (GiveBack 2) 0)) (stepOf 4 1 0) 1 gives (0 ∷ 0 ∷ 3 ∷ 1 ∷ 1 ∷ replicate 7 0)
     -- Clear frees whoever holds, and keeps position, third segment and records.
     ∷ checkedBox heldByOther (stepOf 6 1 0) 2 gives (0 ∷ 0 ∷ 2 ∷ 0 ∷ 0 ∷ 0 ∷ 2 ∷ [])
     ∷ checkedTrain heldByOther (stepOf 6 1 0) 1 gives (0 ∷ 0 ∷ 3 ∷ 2 ∷ 1 ∷ 1 ∷ 0 ∷ 1 ∷ 0 ∷ 0 ∷ 0 ∷ 0 ∷ [])

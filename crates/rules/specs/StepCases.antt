@@ -1,4 +1,4 @@
--- Cases of steps beside 01's own: for codes 13 to 22 and 25 and each condition behind them, for each plausible error, for atomic
+-- Cases of steps beside 01's own: for codes 13 to 22, 25 and 29 and each condition behind them, for each plausible error, for atomic
 -- steps and their order, and for the printout. 23 and 24 are among 01's own, and stop atomic steps here.
 use Prim.Native.Nat.{ℕ}
 use mathlib.Core.List.{List, [], _∷_, _++_}
@@ -181,6 +181,69 @@ atomicCases =
     ++ (0 ∷ 0 ∷ 0 ∷ 1 ∷ 0 ∷ 0 ∷ []))
     ∷ []
 
+-- Train 1 of `merging` has 4 and the lock at box 3, and gives back 4.
+unfoldable pub lockKept : List Step
+lockKept = asked 1 1 3 ++ asked 2 1 3 ++ asked 7 1 3
+
+-- Train 1 of table S has all that it needs to enter 2.
+unfoldable pub ready : List Step
+ready = asked 1 1 2 ++ asked 1 1 3 ++ asked 2 1 2
+
+-- Giving back (02, ticket 2).
+unfoldable pub givingCases : List Case
+givingCases =
+    -- A reservation: the box frees it when it answers, not before; then another train gets it.
+    boxAfter opposed (asked 1 1 2 ++ (stepOf 7 1 2 ∷ [])) 2 gives (0 ∷ 1 ∷ 0 ∷ 1 ∷ 1 ∷ 0 ∷ [])
+    ∷ boxAfter opposed (asked 1 1 2 ++ (stepOf 7 1 2 ∷ stepOf 3 1 0 ∷ [])) 2 gives (0 ∷ 1 ∷ 0 ∷ 1 ∷ 0 ∷ 0 ∷ [])
+    ∷ answersTo opposed (asked 1 1 2 ++ (stepOf 7 1 2 ∷ []) ++ asked 1 2 2) gives (replicate 5 0 ++ (22 ∷ 22 ∷ []))
+    ∷ answersTo opposed (asked 1 1 2 ++ asked 7 1 2 ++ asked 1 2 2) gives (replicate 9 0)
+    ∷ boxAfter opposed (asked 1 1 2 ++ asked 7 1 2 ++ asked 1 2 2) 2 gives (0 ∷ 1 ∷ 0 ∷ 1 ∷ 2 ∷ 0 ∷ [])
+    -- A lock: the same, and its position and reservations stay. Its next may be given back before it.
+    ∷ boxAfter merging (lockKept ++ (stepOf 8 1 3 ∷ [])) 3 gives (0 ∷ 1 ∷ 1 ∷ 0 ∷ 1 ∷ 2 ∷ [])
+    ∷ boxAfter merging (lockKept ++ (stepOf 8 1 3 ∷ stepOf 3 1 0 ∷ [])) 3 gives (0 ∷ 1 ∷ 0 ∷ 0 ∷ 1 ∷ 2 ∷ [])
+    ∷ answersTo merging (lockKept ++ (stepOf 8 1 3 ∷ []) ++ asked 1 2 3 ++ asked 2 2 3) gives (replicate 14 0 ++ (24 ∷ 24 ∷ []))
+    ∷ answersTo merging (lockKept ++ asked 8 1 3 ++ asked 1 2 3 ++ asked 2 2 3) gives (replicate 18 0)
+    ∷ boxAfter merging (lockKept ++ asked 8 1 3 ++ asked 1 2 3 ++ asked 2 2 3) 3 gives (0 ∷ 2 ∷ 2 ∷ 2 ∷ 1 ∷ 2 ∷ [])
+    ∷ boxAfter tableS (ready ++ asked 8 1 2) 2 gives (0 ∷ 1 ∷ 0 ∷ 1 ∷ 1 ∷ 0 ∷ [])
+    -- 29: nothing recorded, at each end by itself, and after the give-back.
+    ∷ answersTo tableS (stepOf 7 1 2 ∷ stepOf 7 1 3 ∷ stepOf 8 1 2 ∷ []) gives (29 ∷ 29 ∷ 29 ∷ [])
+    ∷ answersTo tableS (asked 1 1 2 ++ (stepOf 7 1 3 ∷ [])) gives (0 ∷ 0 ∷ 0 ∷ 29 ∷ [])
+    ∷ answersTo tableS (asked 1 1 3 ++ (stepOf 7 1 2 ∷ [])) gives (0 ∷ 0 ∷ 0 ∷ 29 ∷ [])
+    ∷ answersTo tableS (ready ++ asked 7 1 2 ++ asked 8 1 2 ++ (stepOf 7 1 2 ∷ stepOf 8 1 2 ∷ stepOf 7 1 3 ∷ []))
+    gives (replicate 15 0 ++ (29 ∷ 29 ∷ 0 ∷ []))
+    -- 14, and 15 with a give-back open, sent and answered, or a request.
+    ∷ answersTo tableS (stepOf 7 0 2 ∷ stepOf 8 3 2 ∷ []) gives (14 ∷ 14 ∷ [])
+    ∷ answersTo tableS
+    (asked 1 1 2
+    ++ (stepOf 7 1 2 ∷ stepOf 1 1 2 ∷ stepOf 2 1 2 ∷ stepOf 7 1 2 ∷ stepOf 8 1 2 ∷ stepOf 3 1 0 ∷ stepOf 7 1 2 ∷ []))
+    gives (0 ∷ 0 ∷ 0 ∷ 0 ∷ 15 ∷ 15 ∷ 15 ∷ 15 ∷ 0 ∷ 15 ∷ [])
+    ∷ answersTo tableS (stepOf 1 1 2 ∷ stepOf 7 1 2 ∷ stepOf 8 1 2 ∷ []) gives (0 ∷ 15 ∷ 15 ∷ [])
+    -- 16 before 17, and 17 before 29: no end of next; another box than the box ahead, and one that is no point.
+    ∷ answersTo shortRoute (stepOf 7 1 9 ∷ stepOf 8 1 9 ∷ []) gives (16 ∷ 16 ∷ [])
+    ∷ answersTo tableS (stepOf 7 1 4 ∷ stepOf 7 1 0 ∷ stepOf 8 1 3 ∷ stepOf 8 1 0 ∷ []) gives (17 ∷ 17 ∷ 17 ∷ 17 ∷ [])
+    ∷ answersTo linked (stepOf 8 1 2 ∷ []) gives (17 ∷ [])
+    -- What is given back may be asked for again, and is recorded again.
+    ∷ answersTo tableS (ready ++ asked 8 1 2 ++ asked 7 1 2 ++ asked 1 1 2 ++ asked 2 1 2 ++ (stepOf 5 1 0 ∷ [])) gives (replicate 22 0)
+    -- Enter: 19 from the moment that one of the three is given back.
+    ∷ answersTo tableS (ready ++ (stepOf 7 1 2 ∷ stepOf 5 1 0 ∷ stepOf 3 1 0 ∷ stepOf 5 1 0 ∷ stepOf 4 1 0 ∷ stepOf 5 1 0 ∷ []))
+    gives (replicate 10 0 ++ (19 ∷ 0 ∷ 19 ∷ 0 ∷ 19 ∷ []))
+    ∷ answersTo tableS (ready ++ asked 7 1 3 ++ (stepOf 5 1 0 ∷ [])) gives (replicate 12 0 ++ (19 ∷ []))
+    ∷ answersTo tableS (ready ++ asked 8 1 2 ++ (stepOf 5 1 0 ∷ [])) gives (replicate 12 0 ++ (19 ∷ []))
+    -- A train that crosses gives back what it has of its next; Clear may come between.
+    ∷ answersTo tableS (crossing ++ asked 1 1 4 ++ (stepOf 7 1 4 ∷ stepOf 6 1 0 ∷ stepOf 3 1 0 ∷ stepOf 4 1 0 ∷ [])) gives (replicate 17 0)
+    ∷ boxAfter tableS (crossing ++ asked 1 1 4 ++ (stepOf 7 1 4 ∷ stepOf 6 1 0 ∷ stepOf 3 1 0 ∷ [])) 4 gives (replicate 6 0)
+    -- The order has a give-back where the box answers it, and not before.
+    ∷ orderOf opposed (asked 1 1 2 ++ (stepOf 7 1 2 ∷ []) ++ asked 1 2 3) gives (0 ∷ 1 ∷ 1 ∷ 2 ∷ 1 ∷ 2 ∷ 3 ∷ [])
+    ∷ orderOf opposed (asked 1 1 2 ++ (stepOf 7 1 2 ∷ []) ++ asked 1 2 3 ++ (stepOf 3 1 0 ∷ []))
+    gives (0 ∷ 1 ∷ 1 ∷ 2 ∷ 1 ∷ 2 ∷ 3 ∷ 7 ∷ 1 ∷ 2 ∷ [])
+    ∷ orderOf merging (lockKept ++ asked 8 1 3) gives (0 ∷ 1 ∷ 1 ∷ 3 ∷ 2 ∷ 1 ∷ 3 ∷ 7 ∷ 1 ∷ 3 ∷ 8 ∷ 1 ∷ 3 ∷ [])
+    ∷ atomicBoxAfter merging (lockKept ++ (stepOf 8 1 3 ∷ [])) 3 gives (0 ∷ 1 ∷ 1 ∷ 0 ∷ 1 ∷ 2 ∷ [])
+    -- Atomic give-backs free and drop at once; 16, 17 and 29 stop them.
+    ∷ atomicAnswersTo merging (taking ++ (stepOf 7 1 3 ∷ stepOf 8 1 3 ∷ stepOf 7 1 4 ∷ [])) gives (replicate 7 0 ++ mergingNumbers)
+    ∷ atomicAnswersTo merging (stepOf 7 1 3 ∷ stepOf 8 1 3 ∷ stepOf 7 1 2 ∷ stepOf 8 1 2 ∷ [])
+    gives ((1 ∷ 29 ∷ 29 ∷ 17 ∷ 17 ∷ []) ++ mergingNumbers)
+    ∷ []
+
 -- The train and box lines of the short route.
 unfoldable pub shortText : List ℕ
 shortText = bytesOf "train 1 1 0\nbox 1 0 0 0\nbox 2 0 1 0\nbox 3 0 1 0\nbox 4 0 0 0\n"
@@ -218,4 +281,4 @@ textCases =
     ∷ []
 
 unfoldable pub stepCases : List Case
-stepCases = refusalCases ++ boxCases ++ atomicCases ++ textCases
+stepCases = refusalCases ++ boxCases ++ atomicCases ++ givingCases ++ textCases

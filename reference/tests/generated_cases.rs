@@ -133,7 +133,7 @@ fn steps_hit_every_code_and_the_demand_holds() {
 /// Over all cases of a step fault: what came up in any of them.
 fn any_case(fault: Fault) -> Outcome {
     let mut all = Outcome::default();
-    for case in 0..80 {
+    for case in 0..120 {
         let mut rng = Prng::for_case(14, case);
         let table = accepted_table(&mut rng);
         let outcome = run_case(&table, fault, 500, case % 2 == 1, &mut rng);
@@ -145,16 +145,18 @@ fn any_case(fault: Fault) -> Outcome {
 }
 
 /// Faults that no list of steps from the start of an accepted table shows.
-const UNSEEN: [Fault; 4] = [
+const UNSEEN: [Fault; 6] = [
     Fault::NextBeforeMessage,
     Fault::OwnSegmentRefused,
     Fault::LockNeedsNextOnly,
     Fault::RecordsKept,
+    Fault::BackMayBeRefused,
+    Fault::BackFreesAnyone,
 ];
 
 #[test]
 fn step_faults_are_seen() {
-    for &fault in FAULTS.iter().filter(|f| f.in_steps()) {
+    for &fault in FAULTS.iter().filter(|f| f.in_steps() || f.in_demand()) {
         let all = any_case(fault);
         let seen = !all.broken.is_empty() || all.answers_differ || all.states_differ;
         assert_eq!(seen, !UNSEEN.contains(&fault), "{fault:?}");
@@ -176,6 +178,14 @@ fn clauses_are_broken_by_the_faults_they_stop() {
         (Fault::LockAlwaysGiven, Clause::PositionChangedUnderTrain),
         (Fault::EnterWhileCrossing, Clause::PlaceNotFolded),
         (Fault::EnterWhileCrossing, Clause::PlaceDiffers),
+        (Fault::FreedAtSending, Clause::ReservationDiffers),
+        (Fault::FreedAtSending, Clause::LockDiffers),
+        (Fault::DroppedWhenHeard, Clause::OrderStopped),
+        (Fault::BackHeardAsHolding, Clause::OrderStopped),
+        (Fault::BackFreesFront, Clause::TwoTrainsOneSegment),
+        (Fault::LockBackTurnsPoint, Clause::PositionDiffers),
+        (Fault::BackOrderedWhenSent, Clause::ReservationDiffers),
+        (Fault::BackNotOrdered, Clause::OrderStopped),
     ] {
         assert!(any_case(fault).broken.has(clause), "{fault:?} {clause:?}");
     }

@@ -45,7 +45,7 @@ use mathlib.Core.Bool.{Bool, true, false}
 use mathlib.Core.List.{List, [], _∷_}
 use Prim.Native.Nat.{ℕ}
 use Rattle.rules.specs.declared.SwitchBox.{SwitchBox}
-use Rattle.rules.specs.declared.Request.the-variants.{Reserve, Lock}
+use Rattle.rules.specs.declared.Request.the-variants.{Reserve, Lock, GiveBack, Unlock}
 use Rattle.rules.specs.declared.Message.{Message}
 use Rattle.rules.specs.declared.Message.the-variants.{Idle, Sent, Answered}
 use Rattle.rules.specs.declared.Train.{Train}
@@ -228,10 +228,10 @@ fn atomic_case(rng: &mut Prng, case: u64, table: &Table, steps: usize) {
         let (entry, place) = (&table.trains[train - 1], whole.trains[train - 1].place);
         let next = entry.route.get(place.front + 1).copied().unwrap_or(0);
         let ends = [table.near_box(next, entry.direction), table.far_box(next, entry.direction)];
-        let kind = rng.pick(&[1, 1, 1, 2, 2, 5, 6]);
+        let kind = rng.pick(&[1, 1, 1, 1, 2, 2, 2, 5, 5, 6, 7, 8]);
         let number = match kind {
-            1 | 2 if rng.chance(90) => rng.pick(&ends),
-            1 | 2 => rng.below(table.boxes.len() + 2) as u8,
+            1 | 2 | 7 | 8 if rng.chance(90) => rng.pick(&ends),
+            1 | 2 | 7 | 8 => rng.below(table.boxes.len() + 2) as u8,
             _ => 0,
         };
         let bytes = [kind, train as u8, number];
@@ -326,7 +326,7 @@ fn alter(rng: &mut Prng, line: &mut Line) {
             }
         }
         _ => {
-            let wish = rng.pick(&[Wish::Reservation, Wish::Lock]);
+            let wish = rng.pick(&WISHES);
             let number = match ends {
                 Some((_, near, far, _)) if rng.chance(80) => rng.pick(&[near, far]),
                 _ => rng.below(m + 2) as u8,
@@ -403,6 +403,8 @@ fn message_text(message: Message) -> String {
     let request = |request: Request| match request.wish {
         Wish::Reservation => format!("(Reserve {})", request.number),
         Wish::Lock => format!("(Lock {})", request.number),
+        Wish::ReservationBack => format!("(GiveBack {})", request.number),
+        Wish::LockBack => format!("(Unlock {})", request.number),
     };
     match message {
         Message::None => "Idle".into(),

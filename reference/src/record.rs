@@ -82,7 +82,7 @@ impl Record {
             b't' => self.trains[index][..7][field] = value,
             b'm' => {
                 let message = &mut self.trains[index][7..];
-                let mut set = |state, wish| message.copy_from_slice(&[state, wish as u8, value, 0]);
+                let mut set = |state: u8, wish: Wish| message.copy_from_slice(&[state, wish as u8, value, 0]);
                 match field {
                     0 => message.fill(0),
                     1 => set(1, Wish::Reservation),

@@ -93,7 +93,8 @@ fn a_lock_goes_to_another() {
         let line = walk(&table, &steps);
         assert_eq!((line.boxes[2].lock, line.boxes[2].position), (2, 2));
         // Segment 4 at its far end is still train 1's.
-        let line = walk(&table, &[steps, ask(1, 2, 4, 22), ask(7, 1, 4, 0), ask(1, 2, 4, 0), vec![([5, 2, 0], 0)]].concat());
+        let rest = [ask(1, 2, 4, 22), ask(7, 1, 4, 0), ask(1, 2, 4, 0), vec![([5, 2, 0], 0)]].concat();
+        let line = walk(&table, &[steps, rest].concat());
         assert_eq!((line.trains[1].front_segment(), line.trains[1].tail_segment()), (4, 3));
     }
 }
@@ -201,7 +202,8 @@ fn kinds() {
 #[test]
 fn in_the_order() {
     let table = opposed();
-    let steps = [ask(1, 1, 2, 0), vec![([7, 1, 2], 0)], ask(1, 2, 2, 22), vec![([3, 1, 0], 0)], ask(1, 2, 2, 0)].concat();
+    let sent = [ask(1, 1, 2, 0), vec![([7, 1, 2], 0)], ask(1, 2, 2, 22)].concat();
+    let steps = [sent, vec![([3, 1, 0], 0)], ask(1, 2, 2, 0)].concat();
     walk(&table, &steps);
     let order = atomic_order(&steps);
     assert_eq!(order, [[1, 1, 2], [7, 1, 2], [1, 2, 2]]);

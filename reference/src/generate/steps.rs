@@ -44,7 +44,12 @@ pub struct Driver {
 
 impl Driver {
     pub fn new(rng: &mut Prng) -> Self {
-        Driver { mix: rng.pick(&MIXES), gives_back: true, current: 0, heir: None }
+        Driver::of(rng.pick(&MIXES))
+    }
+
+    /// A driver of this mix.
+    pub fn of(mix: Mix) -> Self {
+        Driver { mix, gives_back: true, current: 0, heir: None }
     }
 
     /// A driver that knows no kinds 7 and 8; a garbage step has 128 more in
@@ -145,8 +150,9 @@ fn needs(line: &Line, train: usize) -> Vec<Step> {
         return vec![];
     };
     let point = line.table.switch_box(ahead).is_some_and(|b| b.kind == POINT);
-    let wanted = [true, true, point].into_iter().zip([[1, me, near], [1, me, far], [2, me, ahead]]);
-    wanted.zip(recorded(line, train)).filter(|((wanted, _), known)| *wanted && !known).map(|((_, step), _)| step).collect()
+    let [has_near, has_far, has_lock] = recorded(line, train);
+    let all = [(!has_near, [1, me, near]), (!has_far, [1, me, far]), (point && !has_lock, [2, me, ahead])];
+    all.into_iter().filter(|(lacks, _)| *lacks).map(|(_, step)| step).collect()
 }
 
 /// What the train has recorded, as steps that give it back.
@@ -155,8 +161,9 @@ fn to_give_back(line: &Line, train: usize) -> Vec<Step> {
     let Some((_, near, far, ahead)) = ends_of_next(line, train) else {
         return vec![];
     };
-    let steps = [[7, me, near], [7, me, far], [8, me, ahead]].into_iter().zip(recorded(line, train));
-    steps.filter(|(_, known)| *known).map(|(step, _)| step).collect()
+    let [has_near, has_far, has_lock] = recorded(line, train);
+    let all = [(has_near, [7, me, near]), (has_far, [7, me, far]), (has_lock, [8, me, ahead])];
+    all.into_iter().filter(|(has, _)| *has).map(|(_, step)| step).collect()
 }
 
 /// A step by which the train gives back what another one needs, if there is

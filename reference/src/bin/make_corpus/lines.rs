@@ -55,12 +55,14 @@ pub fn paper_lists(corpus: &mut Corpus) {
     (4..9).for_each(|taken| corpus.steps(&back[..3 * taken]));
     // A give-back of nothing, at a wrong box, with the give-back open, and asked for again.
     corpus.steps(&[vec![7, 1, 2, 8, 1, 2, 7, 1, 4, 8, 1, 3], back[..12].to_vec(), vec![7, 1, 2, 8, 1, 2]].concat());
-    corpus.steps(&[asked(1, 1, 2), asked(1, 1, 3), asked(2, 1, 2), asked(7, 1, 2), vec![5, 1, 0, 7, 1, 2], asked(1, 1, 2), vec![5, 1, 0]].concat());
+    let again = [asked(7, 1, 2), vec![5, 1, 0, 7, 1, 2], asked(1, 1, 2), vec![5, 1, 0]].concat();
+    corpus.steps(&[asked(1, 1, 2), asked(1, 1, 3), asked(2, 1, 2), again].concat());
     // Train 1 gives back the lock of box 3 and segment 4 at both ends; train 2 asks after each, and enters.
     let locked = [asked(1, 1, 3), asked(1, 1, 4), asked(2, 1, 3)].concat();
     let lock_first = [asked(8, 1, 3), asked(2, 2, 3), asked(1, 2, 3), asked(7, 1, 3)];
     let lock_last = [asked(7, 1, 3), asked(1, 2, 3), asked(2, 2, 3), asked(8, 1, 3)];
-    let rest = [asked(1, 2, 3), asked(2, 2, 3), asked(7, 1, 4), asked(1, 2, 4), vec![5, 2, 0, 8, 2, 3, 7, 2, 4]].concat();
+    let last = vec![5, 2, 0, 8, 2, 3, 7, 2, 4];
+    let rest = [asked(1, 2, 3), asked(2, 2, 3), asked(7, 1, 4), asked(1, 2, 4), last].concat();
     with(corpus, &[(0, &[2, 4]), (0, &[3, 4])], &[&locked[..], &lock_first.concat(), &rest].concat());
     corpus.steps(&[&locked[..], &lock_last.concat(), &rest].concat());
     (1..3).for_each(|taken| corpus.steps(&[&locked[..], &lock_first.concat()[..3 * taken]].concat()));

@@ -4,7 +4,6 @@
 
 use super::prng::Prng;
 use crate::line::*;
-use crate::numbers::{ends_of_next, recorded};
 use crate::step::{step, Step};
 use crate::table::POINT;
 
@@ -142,28 +141,31 @@ fn finished(line: &Line, train: usize) -> bool {
     t.next_segment().is_none() && !t.crossing()
 }
 
-/// What the train lacks, near end, far end and lock in this order, as
-/// requests.
-fn needs(line: &Line, train: usize) -> Vec<Step> {
-    let me = (train + 1) as u8;
-    let Some((_, near, far, ahead)) = ends_of_next(line, train) else {
+/// What a train must have to enter next, as requests: next at the box ahead
+/// and beyond, and the lock of a point; with whether it has it recorded.
+fn all_needed(line: &Line, train: usize) -> Vec<(Step, bool)> {
+    let (t, me, ahead) = (&line.trains[train], (train + 1) as u8, line.box_ahead(train));
+    let Some(next) = t.next_segment() else {
         return vec![];
     };
-    let point = line.table.switch_box(ahead).is_some_and(|b| b.kind == POINT);
-    let [has_near, has_far, has_lock] = recorded(line, train);
-    let all = [(!has_near, [1, me, near]), (!has_far, [1, me, far]), (point && !has_lock, [2, me, ahead])];
-    all.into_iter().filter(|(lacks, _)| *lacks).map(|(_, step)| step).collect()
+    let ends = [ahead, line.table.far_box(next, t.direction)];
+    let mut all: Vec<(Step, bool)> =
+        ends.map(|number| ([1, me, number], t.holdings.reservation(&line.table, next, number))).to_vec();
+    if line.table.switch_box(ahead).is_some_and(|b| b.kind == POINT) {
+        all.push(([2, me, ahead], t.holdings.lock(ahead)));
+    }
+    all
+}
+
+/// What the train lacks, as requests.
+fn needs(line: &Line, train: usize) -> Vec<Step> {
+    all_needed(line, train).into_iter().filter(|(_, has)| !has).map(|(step, _)| step).collect()
 }
 
 /// What the train has recorded, as steps that give it back.
 fn to_give_back(line: &Line, train: usize) -> Vec<Step> {
-    let me = (train + 1) as u8;
-    let Some((_, near, far, ahead)) = ends_of_next(line, train) else {
-        return vec![];
-    };
-    let [has_near, has_far, has_lock] = recorded(line, train);
-    let all = [(has_near, [7, me, near]), (has_far, [7, me, far]), (has_lock, [8, me, ahead])];
-    all.into_iter().filter(|(has, _)| *has).map(|(_, step)| step).collect()
+    let all = all_needed(line, train).into_iter().filter(|(_, has)| *has);
+    all.map(|([kind, me, number], _)| [kind + 6, me, number]).collect()
 }
 
 /// A step by which the train gives back what another one needs, if there is

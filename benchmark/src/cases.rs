@@ -3,7 +3,7 @@
 
 use reference::generate::draft::Style;
 use reference::generate::prng::Prng;
-use reference::generate::steps::{drive, step_bytes};
+use reference::generate::steps::{drive_by, step_bytes, Driver, Mix};
 use reference::generate::tables::{largest_table, table_of};
 use reference::line::start_line;
 use reference::step::{step, Step};
@@ -29,9 +29,20 @@ pub struct List {
 }
 
 impl Case {
-    /// Steps as the generator's driver takes them.
+    /// Steps as the generator's driver takes them, with no kinds 7 and 8: a library that lacks these has the same codes.
     fn driven(name: String, table: Table) -> Case {
-        Case::new(name, table, |rng, table| drive(rng, &mut start_line(table), STEPS))
+        Case::new(name, table, |rng, table| {
+            let driver = Driver::without_back(rng);
+            drive_by(driver, rng, &mut start_line(table), STEPS)
+        })
+    }
+
+    /// Steps of a driver that gives back much of what it has.
+    fn giving_back(name: String, table: Table) -> Case {
+        Case::new(name, table, |rng, table| {
+            let driver = Driver::of(Mix { purposeful: 85, impatient: 13, back: [20, 40] });
+            drive_by(driver, rng, &mut start_line(table), STEPS)
+        })
     }
 
     fn new(name: String, table: Table, steps: fn(&mut Prng, &Table) -> Vec<(Step, u8)>) -> Case {
@@ -66,21 +77,30 @@ pub fn largest(seed: u64) -> Case {
     Case::driven(format!("largest, seed {seed}"), largest_table(&mut Prng::for_case(seed, 0)))
 }
 
-/// Each step three random bytes.
+/// The largest table of seed 0, with give-backs among the steps.
+pub fn largest_giving_back() -> Case {
+    Case::giving_back("largest, giving back".to_string(), largest_table(&mut Prng::for_case(0, 0)))
+}
+
+/// Each step three random bytes, kinds 7 and 8 with 128 more in their place.
 pub fn random_bytes() -> Case {
     Case::new("random bytes".to_string(), largest_table(&mut Prng::for_case(0, 0)), |rng, table| {
         let mut line = start_line(table);
-        (0..STEPS).map(|_| [0; 3].map(|_| rng.byte())).map(|bytes| (bytes, step(&mut line, bytes))).collect()
+        let mut one = || match [0; 3].map(|_| rng.byte()) {
+            [kind @ (7 | 8), train, number] => [kind + 128, train, number],
+            bytes => bytes,
+        };
+        (0..STEPS).map(|_| one()).map(|bytes| (bytes, step(&mut line, bytes))).collect()
     })
 }
 
-/// Table S, with steps of a driver and of waiting trains; the largest tables that the generator makes; one of them with random
-/// bytes for steps; the longest single track, its segments numbered in three ways; tables of growing n and m with few trains, and
+/// Table S, with steps of a driver and of waiting trains; the largest tables that the generator makes; one of them with
+/// give-backs among the steps, and with random bytes for steps; the longest single track, its segments numbered in three ways; tables of growing n and m with few trains, and
 /// of growing k.
 pub fn all() -> Vec<Case> {
     let mut all = vec![table_s(), waiting()];
     all.extend((0..4).map(largest));
-    all.push(random_bytes());
+    all.extend([largest_giving_back(), random_bytes()]);
     let mut numbers: Vec<u8> = (1..=95).collect();
     all.push(Case::driven("track in order".to_string(), track(&numbers)));
     numbers.reverse();

@@ -43,11 +43,12 @@ fn print_times() {
     }
     if let Some(old) = ENGINES.iter().position(|engine| engine.name == "old") {
         println!();
-        println!("ratio of medians, this commit's proved library to the other one's");
+        println!("ratio of medians, this commit's proved library to the other one's; - where that one answers steps otherwise");
         println!("{:<32}{}", "table", OPERATIONS.map(|name| format!("{name:>10}")).concat());
         for (case, times) in &measured {
             let ratios = [READING, WRITING, RUN, CHECKED].map(|i| times[0][i].median / times[old][i].median);
-            println!("{:<32}{}", case.name, ratios.map(|ratio| format!("{ratio:>10.2}")).concat());
+            let show = |ratio: f64| if ratio.is_nan() { format!("{:>10}", "-") } else { format!("{ratio:>10.2}") };
+            println!("{:<32}{}", case.name, ratios.map(show).concat());
         }
     }
 }

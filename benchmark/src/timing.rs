@@ -19,12 +19,15 @@ pub struct Times {
     pub median: f64,
 }
 
-/// Times of the operations, for each of the engines, after all of them gave what they must.
+/// Times of the operations, for each of the engines, after all of them gave what they must. A library of an older commit may
+/// lack kinds of steps, and answer them otherwise: then it has no times of steps, which are not numbers.
 pub fn measure(case: &Case) -> Vec<[Times; 4]> {
     let mut rounds = vec![[const { Vec::new() }; 4]; ENGINES.len()];
     let mut buffer = vec![0; STEPS.max(case.file.len())];
-    for engine in ENGINES {
-        case.lists.iter().for_each(|list| agree(engine, &case.file, list));
+    let agrees = |engine: &Engine| case.lists.iter().all(|list| agrees(engine, &case.file, list));
+    let agree: Vec<bool> = ENGINES.iter().map(agrees).collect();
+    for (engine, agrees) in ENGINES.iter().zip(&agree) {
+        assert!(*agrees || engine.name == "old", "{} gives the codes of the steps", engine.name);
     }
     for round in 0..ROUNDS {
         let list = &case.lists[round % LISTS];
@@ -36,7 +39,11 @@ pub fn measure(case: &Case) -> Vec<[Times; 4]> {
             }
         }
     }
-    rounds.into_iter().map(|operations| operations.map(times)).collect()
+    let mut all: Vec<[Times; 4]> = rounds.into_iter().map(|operations| operations.map(times)).collect();
+    for (times, _) in all.iter_mut().zip(agree).filter(|(_, agrees)| !agrees) {
+        [times[RUN], times[CHECKED]] = [Times { least: f64::NAN, median: f64::NAN }; 2];
+    }
+    all
 }
 
 /// Nanoseconds a call or a step in one round.
@@ -58,16 +65,16 @@ fn times(mut rounds: Vec<f64>) -> Times {
     Times { least: rounds[0], median: rounds[rounds.len() / 2] }
 }
 
-/// The engine reads the file, writes it back and gives the steps the codes that they must have.
-fn agree(engine: &Engine, file: &[u8], List { steps, codes }: &List) {
+/// The engine reads the file and writes it back; whether it gives the steps the codes that they must have.
+fn agrees(engine: &Engine, file: &[u8], List { steps, codes }: &List) -> bool {
     let name = engine.name;
     let mut written = vec![0; file.len()];
     assert_eq!(engine.calls[READING](file, &[], &mut []), 0, "{name} reads the file");
     assert_eq!(engine.calls[WRITING](file, &[], &mut written), 0);
     assert_eq!(written, file, "{name} writes it back");
-    for (operation, count) in [(RUN, STEPS), (CHECKED, FEW)] {
+    [(RUN, STEPS), (CHECKED, FEW)].into_iter().all(|(operation, count)| {
         let mut answers = vec![99; count];
         assert_eq!(engine.calls[operation](file, &steps[..3 * count], &mut answers), 0);
-        assert!(answers == codes[..count], "{name} gives the codes of the steps");
-    }
+        answers == codes[..count]
+    })
 }

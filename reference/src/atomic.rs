@@ -2,8 +2,10 @@
 //! steps made from steps and answers alone, and the whole line that takes
 //! this order in a state of its own, without messages.
 
+use crate::fault::Fault;
 use crate::step::Step;
 use crate::table::*;
+use std::collections::BTreeSet;
 
 /// A train's place as indices in its route: it covers `tail..=front`.
 #[derive(Clone, Copy, Debug, PartialEq, Eq, Hash, Default)]
@@ -41,33 +43,37 @@ pub fn fold_place(places: &mut [Place], [kind, train, _]: Step, answer: u8) {
 }
 
 /// Makes the order of atomic steps. Per train byte it keeps the last
-/// request answered 0.
+/// request or give-back answered 0.
 #[derive(Clone, Debug)]
 pub struct OrderMaker {
     last: Vec<Option<Step>>,
-}
-
-impl Default for OrderMaker {
-    fn default() -> Self {
-        OrderMaker { last: vec![None; 256] }
-    }
+    fault: Fault,
 }
 
 impl OrderMaker {
+    /// Before any step, with a fault switched on or `Fault::None`.
+    pub fn new(fault: Fault) -> Self {
+        OrderMaker { last: vec![None; 256], fault }
+    }
+
     /// The request kept for a train byte.
     pub fn kept(&self, train: u8) -> Option<Step> {
         self.last[train as usize]
     }
 
-    /// The atomic step that this step with its answer adds, if any: a grant
-    /// adds the kept request, an accepted move adds itself.
+    /// The atomic step that this step with its answer adds, if any: a yes of
+    /// the box adds what is kept, an accepted move adds itself.
     pub fn add(&mut self, step: Step, answer: u8) -> Option<Step> {
         let [kind, train, _] = step;
         if answer != 0 {
             return None;
         }
         match kind {
-            1 | 2 => {
+            7 | 8 if self.fault.in_demand() => {
+                self.last[train as usize] = None;
+                Some(step).filter(|_| self.fault == Fault::BackOrderedWhenSent)
+            }
+            1 | 2 | 7 | 8 => {
                 self.last[train as usize] = Some(step);
                 None
             }
@@ -80,7 +86,7 @@ impl OrderMaker {
 
 /// The whole order of a list of steps with answers.
 pub fn atomic_order(steps: &[(Step, u8)]) -> Vec<Step> {
-    let mut maker = OrderMaker::default();
+    let mut maker = OrderMaker::new(Fault::None);
     steps
         .iter()
         .filter_map(|&(step, answer)| maker.add(step, answer))
@@ -92,9 +98,9 @@ pub fn atomic_order(steps: &[(Step, u8)]) -> Vec<Step> {
 pub struct WholeTrain {
     pub place: Place,
     /// Reservations held, as segment and box.
-    pub reservations: Vec<(u8, u8)>,
+    pub reservations: BTreeSet<(u8, u8)>,
     /// Boxes locked.
-    pub locks: Vec<u8>,
+    pub locks: BTreeSet<u8>,
 }
 
 /// A box of the whole line; `holders` go with stem, left, right.
@@ -130,7 +136,7 @@ impl<'a> WholeLine<'a> {
             let first = entry.route[0];
             let ahead = table.far_box(first, entry.direction);
             whole.set_holder(first, ahead, (i + 1) as u8);
-            whole.trains[i].reservations.push((first, ahead));
+            whole.trains[i].reservations.insert((first, ahead));
         }
         whole
     }
@@ -147,6 +153,8 @@ impl<'a> WholeLine<'a> {
             2 => self.lock(i, number),
             5 => self.enter(i),
             6 => self.clear(i),
+            7 => self.give_back(i, number),
+            8 => self.unlock(i, number),
             _ => 13,
         }
     }
@@ -199,7 +207,7 @@ impl<'a> WholeLine<'a> {
             return 22;
         }
         self.set_holder(next, number, me);
-        self.trains[i].reservations.push((next, number));
+        self.trains[i].reservations.insert((next, number));
         0
     }
 
@@ -228,7 +236,47 @@ impl<'a> WholeLine<'a> {
         }
         self.boxes[b].lock = me;
         self.boxes[b].position = self.table.boxes[b].joining(front, next);
-        self.trains[i].locks.push(number);
+        self.trains[i].locks.insert(number);
+        0
+    }
+
+    /// Kind 7 with 3 and 4 in one.
+    fn give_back(&mut self, i: usize, number: u8) -> u8 {
+        let (_, Some(next)) = self.front_next(i) else {
+            return 16;
+        };
+        let ends = self.table.segments[next as usize - 1];
+        if number != ends.a && number != ends.b {
+            return 17;
+        }
+        let held = (next, number);
+        if !self.trains[i].reservations.contains(&held) {
+            return 29;
+        }
+        if self.holder(next, number) == (i + 1) as u8 {
+            self.set_holder(next, number, 0);
+        }
+        self.trains[i].reservations.remove(&held);
+        0
+    }
+
+    /// Kind 8 with 3 and 4 in one.
+    fn unlock(&mut self, i: usize, number: u8) -> u8 {
+        let (front, Some(_)) = self.front_next(i) else {
+            return 16;
+        };
+        let ahead = self.table.far_box(front, self.table.trains[i].direction);
+        if number != ahead || !self.is_point(number) {
+            return 17;
+        }
+        if !self.trains[i].locks.contains(&number) {
+            return 29;
+        }
+        let b = number as usize - 1;
+        if self.boxes[b].lock == (i + 1) as u8 {
+            self.boxes[b].lock = 0;
+        }
+        self.trains[i].locks.remove(&number);
         0
     }
 

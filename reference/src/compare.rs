@@ -32,7 +32,7 @@ pub fn run_case(
 ) -> Outcome {
     let mut right = start_line(table);
     let mut faulty = start_line_with(table, fault);
-    let mut checker = Checker::new(table, &faulty);
+    let mut checker = Checker::new_with(table, &faulty, fault);
     let mut outcome = Outcome { broken: checker.state_clauses(&faulty), ..Outcome::default() };
     outcome.states_differ = states_differ(&right, &faulty);
     let mut driver = Driver::new(rng);

@@ -1,7 +1,7 @@
 //! Counts of codes, as the comparing programs print them.
 
 /// Codes are below this.
-pub const CODES: usize = 29;
+pub const CODES: usize = 30;
 /// How often each code came.
 pub type Counts = [usize; CODES];
 /// The codes that refuse a file, in the order of their numbers.
@@ -17,9 +17,14 @@ pub fn file_codes() -> impl Iterator<Item = usize> {
     std::iter::once(0).chain(FILE_CODES.map(usize::from))
 }
 
-/// The codes of steps from an accepted file on: 0 and 13 to 25.
+/// The codes of steps from an accepted file on: 0, 13 to 25 and 29.
 pub fn step_codes() -> impl Iterator<Item = usize> {
-    std::iter::once(0).chain(13..=25)
+    std::iter::once(0).chain(13..=25).chain([29])
+}
+
+/// Whether a code refuses a step, which then leaves the line as it was: 13 to 21 and 29.
+pub fn refuses_step(code: u8) -> bool {
+    matches!(code, 13..=21 | 29)
 }
 
 /// Files and steps by code.

@@ -2,6 +2,7 @@
 //! has its own name, so that a violation says which one broke.
 
 use crate::atomic::*;
+use crate::fault::Fault;
 use crate::line::Line;
 use crate::step::Step;
 use crate::table::*;
@@ -97,10 +98,15 @@ pub struct Checker<'a> {
 impl<'a> Checker<'a> {
     /// Before any step. The line given is only read for its positions.
     pub fn new(table: &'a Table, line: &Line) -> Self {
+        Checker::new_with(table, line, Fault::None)
+    }
+
+    /// As `new`, with a fault in the demand switched on.
+    pub fn new_with(table: &'a Table, line: &Line, fault: Fault) -> Self {
         Checker {
             table,
             places: vec![Place::default(); table.trains.len()],
-            order: OrderMaker::default(),
+            order: OrderMaker::new(fault),
             whole: WholeLine::start(table),
             positions: line.boxes.iter().map(|b| b.position).collect(),
             stopped: false,

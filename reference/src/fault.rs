@@ -148,6 +148,50 @@ faults! {
         /// Clear leaves the train's records (no step can tell).
         RecordsKept,
     }
+    "Giving back" {
+        /// Kinds 7 and 8 have a box byte of 0; any other is 13.
+        BackTakesNoBox,
+        /// 15 is not asked of a give-back: it replaces an open message.
+        BackWhileOpen,
+        /// The lock's give-back does not ask 17: another box and a link are let through.
+        LockBackAnywhere,
+        /// 29 is looked at before 17.
+        NothingBeforePlace,
+        /// 18 in the place of 29.
+        NothingToGiveIs18,
+        /// 29 is looked at both ends of next together: one recorded is enough for either.
+        EitherEndToGive,
+        /// The train drops its record only when it hears the answer.
+        DroppedWhenHeard,
+        /// Giving back one end of next drops the record of the other too.
+        DropsBothEnds,
+        /// The box frees when the give-back is sent; its answer is a show.
+        FreedAtSending,
+        /// The box says yes and frees nothing.
+        BackNeverFrees,
+        /// The box says no (22, 24) where it does not hold it for this train.
+        BackMayBeRefused,
+        /// The box frees whoever holds it.
+        BackFreesAnyone,
+        /// Giving back a reservation frees the front there too.
+        BackFreesFront,
+        /// Giving back a reservation frees next at both ends.
+        BackFreesBothEnds,
+        /// Giving back a reservation frees the lock of the box too.
+        BackFreesLock,
+        /// Giving back the lock frees front and next there too.
+        LockBackFreesSegments,
+        /// Giving back the lock turns the point to its position at the start.
+        LockBackTurnsPoint,
+        /// A yes to a give-back is recorded as a holding.
+        BackHeardAsHolding,
+    }
+    "Demand 3" {
+        /// The order has a give-back where it is sent, not where it is answered.
+        BackOrderedWhenSent,
+        /// The order has no give-backs.
+        BackNotOrdered,
+    }
     "Reader" {
         /// Loops are accepted.
         LoopTaken,
@@ -193,6 +237,10 @@ faults! {
         RouteInForceMayJump,
         /// 27 does not ask 28 of the table part.
         TableMayJump,
+        /// 27 takes the codes of a request (22; 23 to 25) for the answer to a give-back.
+        BackCodesOfRequests,
+        /// 27 does not ask 16 and 17 of a give-back.
+        BackMessageAnywhere,
     }
 }
 
@@ -226,12 +274,20 @@ impl Fault {
 
     /// Whether the fault is in the check of a line record.
     pub fn in_record(self) -> bool {
-        matches!(self, Fault::RouteInForceMayJump | Fault::TableMayJump)
+        matches!(
+            self,
+            Fault::RouteInForceMayJump | Fault::TableMayJump | Fault::BackCodesOfRequests | Fault::BackMessageAnywhere
+        )
+    }
+
+    /// Whether the fault is in what demand 3 says, with all steps right.
+    pub fn in_demand(self) -> bool {
+        matches!(self, Fault::BackOrderedWhenSent | Fault::BackNotOrdered)
     }
 
     /// Whether the fault is in the start or in the steps.
     pub fn in_steps(self) -> bool {
-        !self.in_reader() && !self.in_record()
+        !self.in_reader() && !self.in_record() && !self.in_demand()
     }
 }
 

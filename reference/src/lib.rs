@@ -16,6 +16,7 @@ pub mod printout;
 pub mod record;
 pub mod refusal;
 pub mod step;
+pub mod step_give_back;
 pub mod step_move;
 pub mod step_request;
 pub mod table;

@@ -13,13 +13,38 @@ pub struct BoxState {
     pub reserved: [u8; 3],
 }
 
-/// What a request asks for.
+/// What a request asks for, with the kind of its step as number. Giving back is asked for as well.
 #[derive(Clone, Copy, Debug, PartialEq, Eq, Hash)]
+#[repr(u8)]
 pub enum Wish {
     /// A reservation of the next segment (kind 1).
-    Reservation,
+    Reservation = 1,
     /// The lock of the box ahead (kind 2).
-    Lock,
+    Lock = 2,
+    /// That the box takes the reservation back (kind 7).
+    ReservationBack = 7,
+    /// That the box takes the lock back (kind 8).
+    LockBack = 8,
+}
+
+/// All wishes.
+pub const WISHES: [Wish; 4] = [Wish::Reservation, Wish::Lock, Wish::ReservationBack, Wish::LockBack];
+
+impl Wish {
+    /// The wish of a kind of step; `None` for a kind that asks for nothing.
+    pub fn of_kind(kind: u8) -> Option<Wish> {
+        WISHES.into_iter().find(|&wish| wish as u8 == kind)
+    }
+
+    /// Whether it is about the lock, not about a reservation.
+    pub fn of_lock(self) -> bool {
+        matches!(self, Wish::Lock | Wish::LockBack)
+    }
+
+    /// Whether it gives back what it is about.
+    pub fn gives_back(self) -> bool {
+        matches!(self, Wish::ReservationBack | Wish::LockBack)
+    }
 }
 
 /// A request to one box. The segments meant are the train's front and next.
@@ -100,6 +125,18 @@ impl Holdings {
         }
     }
 
+    /// Drops the record of the segment's reservation at the box.
+    pub fn drop_reservation(&mut self, table: &Table, segment: u8, number: u8) {
+        if let Some(s) = table.segment(segment) {
+            if s.a == number {
+                self.at_a &= !bit(segment);
+            }
+            if s.b == number {
+                self.at_b &= !bit(segment);
+            }
+        }
+    }
+
     /// Whether the lock of the box is known.
     pub fn lock(&self, number: u8) -> bool {
         self.locks & bit(number) != 0
@@ -110,17 +147,16 @@ impl Holdings {
         self.locks |= bit(number);
     }
 
+    /// Drops the record of the box's lock.
+    pub fn drop_lock(&mut self, number: u8) {
+        self.locks &= !bit(number);
+    }
+
     /// Drops every record at the box.
     pub fn drop_at(&mut self, table: &Table, number: u8) {
-        self.locks &= !bit(number);
-        for (i, s) in table.segments.iter().enumerate() {
-            let segment = (i + 1) as u8;
-            if s.a == number {
-                self.at_a &= !bit(segment);
-            }
-            if s.b == number {
-                self.at_b &= !bit(segment);
-            }
+        self.drop_lock(number);
+        for segment in 1..=table.segments.len() as u8 {
+            self.drop_reservation(table, segment, number);
         }
     }
 }

@@ -24,7 +24,8 @@ pub enum RecordFault {
     Holder,
     /// A message that 16 or 17 would stop.
     Message,
-    /// An answer code that is neither 0 nor one the box gives.
+    /// An answer code that is neither 0 nor one the box gives; to a give-back
+    /// it gives 0 alone.
     AnswerCode,
 }
 
@@ -74,22 +75,26 @@ pub fn record_fault_with(line: &Line, fault: Fault) -> Option<RecordFault> {
             return Some(RecordFault::Holder);
         }
     }
-    (0..k).find_map(|i| message_fault(line, i))
+    (0..k).find_map(|i| message_fault(line, i, fault))
 }
 
 /// The clauses on the message of one train.
-fn message_fault(line: &Line, train: usize) -> Option<RecordFault> {
+fn message_fault(line: &Line, train: usize, fault: Fault) -> Option<RecordFault> {
     let (request, code) = match line.trains[train].message {
         Message::None => return None,
         Message::Sent(request) => (request, 0),
         Message::Answered(request, code) => (request, code),
     };
-    if request_stopped(line, train, request) != 0 {
+    let unasked = request.wish.gives_back() && fault == Fault::BackMessageAnywhere;
+    if request_stopped(line, train, request) != 0 && !unasked {
         return Some(RecordFault::Message);
     }
     let known = match request.wish {
         Wish::Reservation => matches!(code, 0 | 22),
         Wish::Lock => matches!(code, 0 | 23..=25),
+        Wish::ReservationBack if fault == Fault::BackCodesOfRequests => matches!(code, 0 | 22),
+        Wish::LockBack if fault == Fault::BackCodesOfRequests => matches!(code, 0 | 23..=25),
+        Wish::ReservationBack | Wish::LockBack => code == 0,
     };
     (!known).then_some(RecordFault::AnswerCode)
 }

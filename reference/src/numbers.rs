@@ -34,14 +34,10 @@ pub fn recorded(line: &Line, i: usize) -> [bool; 3] {
 
 /// State, kind, box and code of a message.
 pub fn message_numbers(message: Message) -> [u8; 4] {
-    let kind = |request: Request| match request.wish {
-        Wish::Reservation => 1,
-        Wish::Lock => 2,
-    };
     match message {
         Message::None => [0; 4],
-        Message::Sent(request) => [1, kind(request), request.number, 0],
-        Message::Answered(request, code) => [2, kind(request), request.number, code],
+        Message::Sent(Request { wish, number }) => [1, wish as u8, number, 0],
+        Message::Answered(Request { wish, number }, code) => [2, wish as u8, number, code],
     }
 }
 

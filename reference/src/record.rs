@@ -19,7 +19,7 @@ use crate::table::*;
 /// | `R` | a train's route in force: a field for each place |
 /// | `b` | a box: sensor, position, lock, holders at stem, left and right |
 /// | `t` | a train: direction, length, place, covered, near, far, lock |
-/// | `m` | a train's message: none (0); a reservation or a lock of box `value`, sent (1, 2) or answered yes (3, 4); the answer's code (5) |
+/// | `m` | a train's message: none (0); a reservation or a lock of box `value`, sent (1, 2) or answered yes (3, 4); the answer's code (5); a reservation or a lock given back to box `value`, sent (6, 7) or answered yes (8, 9) |
 pub type Change = [u8; 4];
 
 /// The record.
@@ -82,10 +82,19 @@ impl Record {
             b't' => self.trains[index][..7][field] = value,
             b'm' => {
                 let message = &mut self.trains[index][7..];
+                let mut set = |state: u8, wish: Wish| message.copy_from_slice(&[state, wish as u8, value, 0]);
                 match field {
                     0 => message.fill(0),
-                    1..=4 => message.copy_from_slice(&[1 + (field as u8 - 1) / 2, 2 - field as u8 % 2, value, 0]),
-                    _ => message[3] = value,
+                    1 => set(1, Wish::Reservation),
+                    2 => set(1, Wish::Lock),
+                    3 => set(2, Wish::Reservation),
+                    4 => set(2, Wish::Lock),
+                    5 => message[3] = value,
+                    6 => set(1, Wish::ReservationBack),
+                    7 => set(1, Wish::LockBack),
+                    8 => set(2, Wish::ReservationBack),
+                    9 => set(2, Wish::LockBack),
+                    _ => panic!("a message has no field {field}"),
                 }
             }
             _ => panic!("a record has no part {part}"),
@@ -175,7 +184,7 @@ impl Record {
     /// The message of a train.
     fn message(&self, i: usize) -> Message {
         let [.., state, kind, number, code] = self.train(i);
-        let wish = if kind == 2 { Wish::Lock } else { Wish::Reservation };
+        let wish = Wish::of_kind(kind).unwrap_or(Wish::Reservation);
         match state {
             0 => Message::None,
             1 => Message::Sent(Request { wish, number }),

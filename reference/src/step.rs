@@ -1,9 +1,11 @@
-//! One step of the line: kinds 1 to 6, codes 13 to 25. Requests and
-//! answers are in `step_request`, moves in `step_move`.
+//! One step of the line: kinds 1 to 8, codes 13 to 25 and 29. Requests and
+//! answers are in `step_request`, give-backs in `step_give_back`, moves in
+//! `step_move`.
 
 use crate::fault::Fault;
 use crate::line::*;
 use crate::line_check::record_code;
+use crate::step_give_back::give_back;
 use crate::step_move::{clear, enter};
 use crate::step_request::{answer, hear, send};
 
@@ -19,7 +21,7 @@ pub fn step_checked(line: &mut Line, step_bytes: Step) -> u8 {
 }
 
 /// Takes a step on a record that holds, and gives its code. The line is as
-/// it was for codes 13 to 21.
+/// it was for codes 13 to 21 and 29.
 pub fn step(line: &mut Line, step_bytes: Step) -> u8 {
     step_with(line, step_bytes, Fault::None)
 }
@@ -40,6 +42,7 @@ pub fn step_with(line: &mut Line, step_bytes: Step, fault: Fault) -> u8 {
 fn decide(line: &mut Line, [kind, train, number]: Step, fault: Fault) -> u8 {
     match kind {
         1 | 2 => {}
+        7 | 8 if number == 0 || fault != Fault::BackTakesNoBox => {}
         3..=6 if number == 0 || fault == Fault::BoxByteIgnored => {}
         _ if fault == Fault::TrainBeforeKind && no_train(line, train) => return 14,
         _ => return 13,
@@ -54,7 +57,9 @@ fn decide(line: &mut Line, [kind, train, number]: Step, fault: Fault) -> u8 {
         3 => answer(line, index, fault),
         4 => hear(line, index, fault),
         5 => enter(line, index, fault),
-        _ => clear(line, index, fault),
+        6 => clear(line, index, fault),
+        7 => give_back(line, index, Request { wish: Wish::ReservationBack, number }, fault),
+        _ => give_back(line, index, Request { wish: Wish::LockBack, number }, fault),
     }
 }
 

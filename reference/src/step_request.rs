@@ -1,8 +1,9 @@
 //! Kinds 1 to 4: the train sends a request, the box answers, the train
-//! hears.
+//! hears. What a box does about a give-back is in `step_give_back`.
 
 use crate::fault::Fault;
 use crate::line::*;
+use crate::step_give_back::{drop_record, free};
 use crate::table::POINT;
 
 /// Kinds 1 and 2: the train sends a request.
@@ -38,15 +39,16 @@ pub fn send(line: &mut Line, train: usize, request: Request, fault: Fault) -> u8
     0
 }
 
-/// 16 or 17 if one of them stops the request, else 0.
+/// 16 or 17 if one of them stops the request, else 0. They are the same for
+/// giving back.
 pub fn request_stopped(line: &Line, train: usize, request: Request) -> u8 {
     let number = request.number;
     let Some(next) = line.trains[train].next_segment() else {
         return 16;
     };
-    let fits = match request.wish {
-        Wish::Reservation => line.table.segment(next).is_some_and(|s| s.a == number || s.b == number),
-        Wish::Lock => number == line.box_ahead(train) && is_point(line, number),
+    let fits = match request.wish.of_lock() {
+        false => line.table.segment(next).is_some_and(|s| s.a == number || s.b == number),
+        true => number == line.box_ahead(train) && is_point(line, number),
     };
     match fits {
         true => 0,
@@ -58,27 +60,27 @@ pub fn is_point(line: &Line, number: u8) -> bool {
     line.table.switch_box(number).is_some_and(|b| b.kind == POINT)
 }
 
-/// Whether the train has recorded what the request asks for.
-fn holds(line: &Line, train: usize, request: Request) -> bool {
+/// Whether the train has recorded what the request is about.
+pub fn holds(line: &Line, train: usize, request: Request) -> bool {
     let t = &line.trains[train];
-    match request.wish {
-        Wish::Reservation => {
+    match request.wish.of_lock() {
+        false => {
             let next = t.next_segment().unwrap_or(0);
             t.holdings.reservation(&line.table, next, request.number)
         }
-        Wish::Lock => t.holdings.lock(request.number),
+        true => t.holdings.lock(request.number),
     }
 }
 
-/// The train records what the request asked for.
+/// The train records what the request is about.
 fn record(line: &mut Line, train: usize, request: Request) {
     let t = &mut line.trains[train];
-    match request.wish {
-        Wish::Reservation => {
+    match request.wish.of_lock() {
+        false => {
             let next = t.next_segment().unwrap_or(0);
             t.holdings.add_reservation(&line.table, next, request.number);
         }
-        Wish::Lock => t.holdings.add_lock(request.number),
+        true => t.holdings.add_lock(request.number),
     }
 }
 
@@ -97,7 +99,7 @@ pub fn answer(line: &mut Line, train: usize, fault: Fault) -> u8 {
         grant(line, train, request, fault);
     }
     let at_grant = matches!(fault, Fault::RecordedWhenGranted | Fault::GrantIsHearing);
-    if at_grant && code == 0 {
+    if at_grant && code == 0 && !request.wish.gives_back() {
         record(line, train, request);
     }
     line.trains[train].message = match fault {
@@ -107,7 +109,7 @@ pub fn answer(line: &mut Line, train: usize, fault: Fault) -> u8 {
     code
 }
 
-/// The decision of the box: 0 yes, 22 to 25 no.
+/// The decision of the box: 0 yes, 22 to 25 no. A give-back has a yes always.
 fn box_code(line: &Line, train: usize, request: Request, fault: Fault) -> u8 {
     let me = (train + 1) as u8;
     let number = request.number;
@@ -143,6 +145,9 @@ fn box_code(line: &Line, train: usize, request: Request, fault: Fault) -> u8 {
                 _ => 0,
             }
         }
+        Wish::ReservationBack if fault == Fault::BackMayBeRefused && line.reservation(next, number) != me => 22,
+        Wish::LockBack if fault == Fault::BackMayBeRefused && state.lock != me => 24,
+        Wish::ReservationBack | Wish::LockBack => 0,
     }
 }
 
@@ -156,6 +161,7 @@ fn show_code(line: &Line, train: usize, request: Request) -> u8 {
         Wish::Lock if lock == me => 0,
         Wish::Reservation => 22,
         Wish::Lock => box_code(line, train, request, Fault::None).max(23),
+        Wish::ReservationBack | Wish::LockBack => 0,
     }
 }
 
@@ -171,7 +177,8 @@ fn missing_here(line: &Line, me: u8, front: u8, next: u8, number: u8, fault: Fau
     }
 }
 
-/// The box says yes: the holder is set, or position and lock.
+/// The box says yes: the holder is set, or position and lock; or what is
+/// given back becomes free.
 fn grant(line: &mut Line, train: usize, request: Request, fault: Fault) {
     let me = (train + 1) as u8;
     let front = line.trains[train].front_segment();
@@ -198,6 +205,8 @@ fn grant(line: &mut Line, train: usize, request: Request, fault: Fault) {
                 }
             }
         }
+        Wish::ReservationBack | Wish::LockBack if fault == Fault::FreedAtSending => {}
+        Wish::ReservationBack | Wish::LockBack => free(line, train, request, fault),
     }
 }
 
@@ -209,8 +218,11 @@ pub fn hear(line: &mut Line, train: usize, fault: Fault) -> u8 {
         _ => return 21,
     };
     let heard = code == 0 && fault != Fault::GrantIsHearing;
-    if heard || fault == Fault::NoHeardAsYes {
-        record(line, train, request);
+    match request.wish.gives_back() {
+        false if heard || fault == Fault::NoHeardAsYes => record(line, train, request),
+        true if fault == Fault::BackHeardAsHolding => record(line, train, request),
+        true if fault == Fault::DroppedWhenHeard => drop_record(line, train, request, fault),
+        _ => {}
     }
     if code == 0 || fault != Fault::NoStaysOpen {
         line.trains[train].message = Message::None;

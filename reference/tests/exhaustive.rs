@@ -3,7 +3,7 @@
 
 mod common;
 use common::*;
-use reference::counts::CODES;
+use reference::counts::{refuses_step, step_codes, CODES};
 use reference::demand::Checker;
 use reference::fast;
 use reference::fault::Fault;
@@ -20,11 +20,10 @@ use std::collections::{BTreeSet, HashSet};
 fn all_steps(table: &Table) -> Vec<Step> {
     let k = table.trains.len() as u8;
     let m = table.boxes.len() as u8;
-    let mut steps = vec![[0, 1, 0], [7, 1, 0], [3, 1, 1], [1, 0, 1], [5, k + 1, 0], [255; 3]];
+    let mut steps = vec![[0, 1, 0], [9, 1, 0], [3, 1, 1], [1, 0, 1], [8, 0, 1], [5, k + 1, 0], [255; 3]];
     for train in 1..=k {
         for number in 0..=m + 1 {
-            steps.push([1, train, number]);
-            steps.push([2, train, number]);
+            steps.extend([1, 2, 7, 8].map(|kind| [kind, train, number]));
         }
         steps.extend((3..=6).map(|kind| [kind, train, 0]));
     }
@@ -43,15 +42,17 @@ fn search(table: &Table) -> (usize, BTreeSet<u8>) {
     let steps = all_steps(table);
     while let Some((line, checker)) = open.pop() {
         for &bytes in &steps {
-            let (mut line, mut checker) = (line.clone(), checker.clone());
-            let before = (line.boxes.clone(), line.trains.clone());
+            let before = &line;
+            let mut line = before.clone();
             let answer = step(&mut line, bytes);
             codes.insert(answer);
+            if refuses_step(answer) {
+                assert_eq!(*before, line);
+                continue;
+            }
+            let mut checker = checker.clone();
             let broken = checker.observe(bytes, answer, &line);
             assert!(broken.is_empty(), "{bytes:?} {answer} {broken:?} {line:?}");
-            if (13..=21).contains(&answer) {
-                assert_eq!(before, (line.boxes.clone(), line.trains.clone()));
-            }
             if seen.insert((line.boxes.clone(), line.trains.clone(), checker.state())) {
                 assert_eq!(record_code(&line), 0);
                 open.push((line, checker));
@@ -73,7 +74,7 @@ fn all_lists_on_s() {
 fn all_lists_of_two_that_follow() {
     let (lines, codes) = search(&s_with(&[(0, &[2, 4]), (0, &[3, 4])]));
     println!("{lines} lines, codes {codes:?}");
-    let expected: BTreeSet<u8> = [0].into_iter().chain(13..=25).collect();
+    let expected: BTreeSet<u8> = step_codes().map(|code| code as u8).collect();
     assert_eq!(codes, expected);
 }
 
@@ -127,6 +128,9 @@ fn told_apart(table: &Table, fault: Fault) -> bool {
         for &bytes in &steps {
             let mut pair = (right.clone(), faulty.clone());
             let answers = (step(&mut pair.0, bytes), step_with(&mut pair.1, bytes, fault));
+            if answers.0 == answers.1 && pair.0 == right && pair.1 == faulty {
+                continue;
+            }
             if answers.0 != answers.1 || seen_of(&pair.0) != seen_of(&pair.1) {
                 return true;
             }
@@ -151,10 +155,18 @@ fn faults_no_list_shows() {
         Fault::OwnSegmentRefused,
         Fault::LockNeedsNextOnly,
         Fault::RecordsKept,
+        Fault::BackMayBeRefused,
+        Fault::BackFreesAnyone,
     ] {
         assert!(tables.iter().all(|t| !told_apart(t, fault)), "{fault:?}");
     }
-    for fault in [Fault::SensorNotAsked, Fault::LockTakenOver, Fault::RecordedBeforePlace] {
+    for fault in [
+        Fault::SensorNotAsked,
+        Fault::LockTakenOver,
+        Fault::RecordedBeforePlace,
+        Fault::DroppedWhenHeard,
+        Fault::LockBackAnywhere,
+    ] {
         assert!(tables.iter().any(|t| told_apart(t, fault)), "{fault:?}");
     }
 }

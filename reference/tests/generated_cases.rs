@@ -9,9 +9,9 @@ use reference::fault::{Fault, FAULTS};
 use reference::generate::damage::damaged_file;
 use reference::generate::made_up::{changes, AIMS};
 use reference::generate::prng::Prng;
-use reference::generate::steps::{drive, Driver};
+use reference::generate::steps::{drive, drive_by, Driver};
 use reference::generate::tables::{accepted_table, largest_table};
-use reference::line::start_line;
+use reference::line::{start_line, Message};
 use reference::line_check::{record_fault, record_fault_with};
 use reference::record::Record;
 use reference::refusal::code_of;
@@ -19,6 +19,7 @@ use reference::step::{step, Step};
 use reference::table::{Table, TrainEntry};
 use reference::table_read::{read_table, read_table_with, route_in_file};
 use reference::table_write::{file_bytes, write_table};
+use std::collections::HashMap;
 
 const CASES: u64 = 150;
 
@@ -130,10 +131,54 @@ fn steps_hit_every_code_and_the_demand_holds() {
     assert!(missing.is_empty(), "{missing:?}");
 }
 
+/// Give-backs of both kinds are sent, answered and heard; what was given back goes to another train, or to the same one
+/// again; and a driver without them has none.
+#[test]
+fn steps_give_back() {
+    let mut seen = [[0; 3]; 2];
+    let mut had = [0; 2];
+    for case in 0..CASES {
+        let mut rng = Prng::for_case(18, case);
+        let table = accepted_table(&mut rng);
+        let mut line = start_line(&table);
+        let mut driver = Driver::new(&mut rng);
+        let mut given_back = HashMap::new();
+        for _ in 0..600 {
+            let bytes = driver.next_step(&mut rng, &line);
+            let before: Vec<Message> = line.trains.iter().map(|t| t.message).collect();
+            if step(&mut line, bytes) != 0 {
+                continue;
+            }
+            let i = usize::from(bytes[1]) - 1;
+            let (column, request) = match (before[i], line.trains[i].message) {
+                (Message::None, Message::Sent(request)) => (0, request),
+                (Message::Sent(request), Message::Answered(..)) => (1, request),
+                (Message::Answered(request, _), Message::None) => (2, request),
+                _ => continue,
+            };
+            let what = (request.number, request.wish.of_lock(), line.trains[i].next_segment());
+            let back = request.wish.gives_back();
+            if back {
+                seen[usize::from(request.wish.of_lock())][column] += 1;
+            }
+            if back && column == 1 {
+                given_back.insert(what, i);
+            } else if column == 1 {
+                let giver = given_back.remove(&what);
+                giver.iter().for_each(|&giver| had[usize::from(giver != i)] += 1);
+            }
+        }
+        let driver = Driver::without_back(&mut rng);
+        let steps = drive_by(driver, &mut rng, &mut start_line(&table), 200);
+        assert!(steps.iter().all(|([kind, ..], _)| !matches!(kind, 7 | 8)));
+    }
+    assert!(seen.as_flattened().iter().chain(&had).all(|&count| count > 50), "{seen:?} {had:?}");
+}
+
 /// Over all cases of a step fault: what came up in any of them.
 fn any_case(fault: Fault) -> Outcome {
     let mut all = Outcome::default();
-    for case in 0..80 {
+    for case in 0..120 {
         let mut rng = Prng::for_case(14, case);
         let table = accepted_table(&mut rng);
         let outcome = run_case(&table, fault, 500, case % 2 == 1, &mut rng);
@@ -145,16 +190,18 @@ fn any_case(fault: Fault) -> Outcome {
 }
 
 /// Faults that no list of steps from the start of an accepted table shows.
-const UNSEEN: [Fault; 4] = [
+const UNSEEN: [Fault; 6] = [
     Fault::NextBeforeMessage,
     Fault::OwnSegmentRefused,
     Fault::LockNeedsNextOnly,
     Fault::RecordsKept,
+    Fault::BackMayBeRefused,
+    Fault::BackFreesAnyone,
 ];
 
 #[test]
 fn step_faults_are_seen() {
-    for &fault in FAULTS.iter().filter(|f| f.in_steps()) {
+    for &fault in FAULTS.iter().filter(|f| f.in_steps() || f.in_demand()) {
         let all = any_case(fault);
         let seen = !all.broken.is_empty() || all.answers_differ || all.states_differ;
         assert_eq!(seen, !UNSEEN.contains(&fault), "{fault:?}");
@@ -176,6 +223,14 @@ fn clauses_are_broken_by_the_faults_they_stop() {
         (Fault::LockAlwaysGiven, Clause::PositionChangedUnderTrain),
         (Fault::EnterWhileCrossing, Clause::PlaceNotFolded),
         (Fault::EnterWhileCrossing, Clause::PlaceDiffers),
+        (Fault::FreedAtSending, Clause::ReservationDiffers),
+        (Fault::FreedAtSending, Clause::LockDiffers),
+        (Fault::DroppedWhenHeard, Clause::OrderStopped),
+        (Fault::BackHeardAsHolding, Clause::OrderStopped),
+        (Fault::BackFreesFront, Clause::TwoTrainsOneSegment),
+        (Fault::LockBackTurnsPoint, Clause::PositionDiffers),
+        (Fault::BackOrderedWhenSent, Clause::ReservationDiffers),
+        (Fault::BackNotOrdered, Clause::OrderStopped),
     ] {
         assert!(any_case(fault).broken.has(clause), "{fault:?} {clause:?}");
     }

@@ -49,8 +49,12 @@ fn example(block: &str) -> Example {
 #[test]
 fn codes_have_their_smallest_examples() {
     let (entries, examples) = (entries(), smallest_examples());
-    assert_eq!(entries.iter().map(|&(code, _)| code).collect::<Vec<u8>>(), (1..=28).collect::<Vec<u8>>());
-    for ((code, text), smallest) in entries.into_iter().zip(&examples) {
+    // 29 stands in the place where it is looked at, beside 18.
+    let due: Vec<u8> = (1..=18).chain([29]).chain(19..=28).collect();
+    assert_eq!(entries.iter().map(|&(code, _)| code).collect::<Vec<u8>>(), due);
+    assert_eq!(examples.len(), due.len());
+    for (code, text) in entries {
+        let smallest = &examples[usize::from(code) - 1];
         let block = blocks(text)[1];
         let on_page = example(block);
         assert_eq!(on_page, *smallest, "entry {code}");
@@ -77,7 +81,7 @@ fn mended(text: &str) -> Option<Example> {
 fn mended_examples_are_accepted() {
     let tried = entries().into_iter().filter_map(|(code, text)| Some((code, mended(text)?)));
     let answers: Vec<(u8, u8)> = tried.map(|(code, example)| (code, example.answer())).collect();
-    assert_eq!(answers, [6, 7, 8, 10, 11, 19, 25, 28].map(|code| (code, 0)));
+    assert_eq!(answers, [6, 7, 8, 10, 11, 29, 19, 25, 28].map(|code| (code, 0)));
 }
 
 /// A file has the code, or it is accepted and every step before the last is answered 0.
@@ -232,7 +236,7 @@ fn what_is_right_is_accepted() {
         }
         tried.push(code);
     }
-    assert_eq!(tried, [13, 14, 15, 17, 18, 19, 20, 21, 22, 23, 24, 25, 26, 27]);
+    assert_eq!(tried, [13, 14, 15, 17, 18, 29, 19, 20, 21, 22, 23, 24, 25, 26, 27]);
 }
 
 /// The entry of 13 has the bytes of a step typed as text, the steps that they are and what is printed for them.

@@ -2,6 +2,7 @@
 
 mod common;
 use common::*;
+use reference::counts::refuses_step;
 use reference::generate::prng::Prng;
 use reference::generate::tables::accepted_table;
 use reference::line::*;
@@ -111,7 +112,7 @@ fn record_case(fault: Option<RecordFault>, change: impl Fn(&mut Line)) {
     assert_eq!(record_fault(&line), fault);
     assert_eq!(record_code(&line), if fault.is_some() { 27 } else { 0 });
     let before = line.clone();
-    let code = step_checked(&mut line, [7, 1, 1]);
+    let code = step_checked(&mut line, [9, 1, 1]);
     assert_eq!(code, if fault.is_some() { 27 } else { 13 });
     assert_eq!(line, before);
 }
@@ -162,19 +163,29 @@ fn record_messages() {
         let next_end = number == 2 || number == 3;
         let fault = (!next_end).then_some(Message);
         case(fault, reference::line::Message::Sent(request(Reservation, number)));
+        case(fault, reference::line::Message::Sent(request(ReservationBack, number)));
+        case(fault, reference::line::Message::Answered(request(ReservationBack, number), 0));
         let fault = (number != 2).then_some(Message);
         case(fault, reference::line::Message::Sent(request(Lock, number)));
+        case(fault, reference::line::Message::Sent(request(LockBack, number)));
+        case(fault, reference::line::Message::Answered(request(LockBack, number), 0));
     }
     for code in 0..=255 {
         let fault = (!matches!(code, 0 | 22)).then_some(AnswerCode);
         case(fault, reference::line::Message::Answered(request(Reservation, 3), code));
         let fault = (!matches!(code, 0 | 23 | 24 | 25)).then_some(AnswerCode);
         case(fault, reference::line::Message::Answered(request(Lock, 2), code));
+        let fault = (code != 0).then_some(AnswerCode);
+        case(fault, reference::line::Message::Answered(request(ReservationBack, 2), code));
+        case(fault, reference::line::Message::Answered(request(ReservationBack, 3), code));
+        case(fault, reference::line::Message::Answered(request(LockBack, 2), code));
     }
-    record_case(Some(Message), |l| {
-        l.trains[0].front = 2;
-        l.trains[0].message = reference::line::Message::Sent(request(Reservation, 3));
-    });
+    for wish in WISHES {
+        record_case(Some(Message), |l| {
+            l.trains[0].front = 2;
+            l.trains[0].message = reference::line::Message::Sent(request(wish, 3));
+        });
+    }
 }
 
 /// Knowledge of the train is no part of code 27.
@@ -198,7 +209,7 @@ fn change_record(rng: &mut Prng, line: &mut Line) {
     let at = rng.below(line.boxes.len().max(1));
     let small = rng.below(5) as u8;
     let value = if rng.chance(70) { small } else { rng.byte() };
-    let wish = rng.pick(&[Wish::Reservation, Wish::Lock]);
+    let wish = rng.pick(&WISHES);
     let asked = request(wish, value);
     let answers = [0, 22, 23, 24, 25, 15];
     if let Some(b) = line.boxes.get_mut(at) {
@@ -251,7 +262,7 @@ fn made_up_records_never_panic() {
             }
             for _ in 0..12 {
                 let before = line.clone();
-                let kind = rng.below(8) as u8;
+                let kind = rng.below(10) as u8;
                 let number = if (3..=6).contains(&kind) { 0 } else { rng.below(9) as u8 };
                 let code = step_checked(&mut line, [kind, rng.below(4) as u8, number]);
                 assert_eq!(code == 27, record_code(&before) == 27);
@@ -259,7 +270,7 @@ fn made_up_records_never_panic() {
                     27 => failed += 1,
                     _ => held += 1,
                 }
-                if (13..=21).contains(&code) || code == 27 {
+                if refuses_step(code) || code == 27 {
                     assert_eq!(line, before);
                 }
             }

@@ -17,7 +17,7 @@ use reference::numbers::{ends_of_next, line_numbers, recorded};
 use reference::printout::printout;
 use reference::refusal::numbers_of;
 use reference::step::{step_checked, Step};
-use reference::table::Table;
+use reference::table::{Table, POINT};
 use reference::table_read::read_table;
 use reference::table_write::{file_bytes, write_table};
 
@@ -45,7 +45,7 @@ use mathlib.Core.Bool.{Bool, true, false}
 use mathlib.Core.List.{List, [], _∷_}
 use Prim.Native.Nat.{ℕ}
 use Rattle.rules.specs.declared.SwitchBox.{SwitchBox}
-use Rattle.rules.specs.declared.Request.the-variants.{Reserve, Lock}
+use Rattle.rules.specs.declared.Request.the-variants.{Reserve, Lock, GiveBack, Unlock}
 use Rattle.rules.specs.declared.Message.{Message}
 use Rattle.rules.specs.declared.Message.the-variants.{Idle, Sent, Answered}
 use Rattle.rules.specs.declared.Train.{Train}
@@ -228,10 +228,10 @@ fn atomic_case(rng: &mut Prng, case: u64, table: &Table, steps: usize) {
         let (entry, place) = (&table.trains[train - 1], whole.trains[train - 1].place);
         let next = entry.route.get(place.front + 1).copied().unwrap_or(0);
         let ends = [table.near_box(next, entry.direction), table.far_box(next, entry.direction)];
-        let kind = rng.pick(&[1, 1, 1, 2, 2, 5, 6]);
+        let kind = rng.pick(&[1, 1, 1, 1, 2, 2, 2, 5, 5, 6, 7, 8]);
         let number = match kind {
-            1 | 2 if rng.chance(90) => rng.pick(&ends),
-            1 | 2 => rng.below(table.boxes.len() + 2) as u8,
+            1 | 2 | 7 | 8 if rng.chance(90) => rng.pick(&ends),
+            1 | 2 | 7 | 8 => rng.below(table.boxes.len() + 2) as u8,
             _ => 0,
         };
         let bytes = [kind, train as u8, number];
@@ -254,14 +254,16 @@ fn made_up_case(rng: &mut Prng, case: u64, table: &Table, steps: usize) {
         let mut line = start_line(table);
         let length = rng.between(0, steps);
         drive(rng, &mut line, length);
+        let mut meant = None;
         match change {
             0 => alter_route(rng, &mut line),
+            1 => meant = alter_for_back(rng, &mut line),
             _ => (0..rng.between(1, 3)).for_each(|_| alter(rng, &mut line)),
         }
-        if rng.chance(10) {
+        if meant.is_none() && rng.chance(10) {
             alter_table(rng, &mut line.table);
         }
-        let bytes = Driver::new(rng).next_step(rng, &line);
+        let bytes = meant.unwrap_or_else(|| Driver::new(rng).next_step(rng, &line));
         let mut after = line.clone();
         let mut numbers = vec![step_checked(&mut after, bytes)];
         numbers.extend(line_numbers(&after));
@@ -280,6 +282,41 @@ fn alter_route(rng: &mut Prng, line: &mut Line) {
         let place = rng.below(train.route.len());
         train.route[place] = segment;
     }
+}
+
+/// Gives a train that has a next a give-back to send, or one that is sent or answered, with any holder at the box; the
+/// step that it is meant for.
+fn alter_for_back(rng: &mut Prng, line: &mut Line) -> Option<Step> {
+    let (k, first) = (line.trains.len(), rng.below(line.trains.len()));
+    let i = (0..k).map(|i| (i + first) % k).find(|&i| line.trains[i].next_segment().is_some())?;
+    let (next, near, far, ahead) = ends_of_next(line, i)?;
+    let (me, any) = (i as u8 + 1, rng.between(1, k) as u8);
+    let point = line.table.switch_box(ahead).is_some_and(|b| b.kind == POINT);
+    let lock = rng.chance(if point { 60 } else { 10 });
+    let (wish, number) = match lock {
+        true => (Wish::LockBack, ahead),
+        false => (Wish::ReservationBack, rng.pick(&[near, far])),
+    };
+    let holder = rng.pick(&[me, me, 0, any]);
+    match line.box_state_mut(number) {
+        Some(state) if lock => state.lock = holder,
+        _ => line.set_reservation(next, number, holder),
+    }
+    let request = Request { wish, number };
+    let (kind, message) = match rng.below(10) {
+        0..=4 => (3, Message::Sent(request)),
+        5 | 6 => (4, Message::Answered(request, 0)),
+        7 => (4, Message::Answered(request, rng.pick(&[22, 22, 24, 29]))),
+        _ => (wish as u8, Message::None),
+    };
+    let (table, train) = (&line.table, &mut line.trains[i]);
+    train.message = message;
+    if rng.chance(60) {
+        train.holdings.add_reservation(table, next, near);
+        train.holdings.add_reservation(table, next, far);
+        train.holdings.add_lock(ahead);
+    }
+    Some([kind, me, if kind < 7 { 0 } else { number }])
 }
 
 /// Alters one part of a record, mostly into something that no steps reach.
@@ -326,7 +363,7 @@ fn alter(rng: &mut Prng, line: &mut Line) {
             }
         }
         _ => {
-            let wish = rng.pick(&[Wish::Reservation, Wish::Lock]);
+            let wish = rng.pick(&WISHES);
             let number = match ends {
                 Some((_, near, far, _)) if rng.chance(80) => rng.pick(&[near, far]),
                 _ => rng.below(m + 2) as u8,
@@ -403,6 +440,8 @@ fn message_text(message: Message) -> String {
     let request = |request: Request| match request.wish {
         Wish::Reservation => format!("(Reserve {})", request.number),
         Wish::Lock => format!("(Lock {})", request.number),
+        Wish::ReservationBack => format!("(GiveBack {})", request.number),
+        Wish::LockBack => format!("(Unlock {})", request.number),
     };
     match message {
         Message::None => "Idle".into(),

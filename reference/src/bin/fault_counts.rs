@@ -52,7 +52,7 @@ fn main() {
         "{:22} {:>5} {:>8} {:>7} {:>5} {:>4}  clauses broken, with cases",
         "step fault", "cases", "demand 3", "answers", "state", "none"
     );
-    for &fault in [Fault::None].iter().chain(FAULTS).filter(|f| f.in_steps()) {
+    for &fault in [Fault::None].iter().chain(FAULTS).filter(|f| f.in_steps() || f.in_demand()) {
         step_fault(fault, seed, cases, steps);
     }
     println!();

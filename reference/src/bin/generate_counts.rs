@@ -1,4 +1,5 @@
-//! Counts how often each code comes up over generated files and steps.
+//! Counts how often each code comes up over generated files and steps, and
+//! what becomes of requests and of what is given back.
 //! Arguments: seed, number of tables, damaged files per table, steps per
 //! table.
 
@@ -8,17 +9,19 @@ use reference::generate::damage::damaged_file;
 use reference::generate::prng::Prng;
 use reference::generate::steps::Driver;
 use reference::generate::tables::{accepted_table, largest_table};
-use reference::line::start_line;
+use reference::line::{start_line, Line, Message, WISHES};
 use reference::refusal::{code_of, numbers_of};
-use reference::step::step;
+use reference::step::{step, Step};
 use reference::table_read::read_table;
 use reference::table_write::file_bytes;
+use std::collections::HashMap;
 
 fn main() {
     let (seed, tables) = (argument(1, 1), argument(2, 500));
     let (damages, steps) = (argument(3, 40), argument(4, 2000));
     let mut file_codes = [0; CODES];
     let mut step_codes = [0; CODES];
+    let mut messages = Messages::default();
     // 11 and 28, in train 1 and in later ones, at places 1 to 4 and later ones.
     let mut places = [[[0; 5]; 2]; 2];
     let (mut refused, mut farthest, mut most) = (0, 0, [0; 4]);
@@ -51,8 +54,12 @@ fn main() {
         let mut driver = Driver::new(&mut rng);
         for _ in 0..steps {
             let bytes = driver.next_step(&mut rng, &line);
-            step_codes[step(&mut line, bytes) as usize] += 1;
+            let before = message_of(&line, bytes);
+            let code = step(&mut line, bytes);
+            step_codes[code as usize] += 1;
+            messages.add(&line, bytes, code, before);
         }
+        messages.given_back.clear();
         farthest = line.trains.iter().map(|t| t.front).fold(farthest, usize::max);
     }
     println!("seed {seed}: {tables} tables, {damages} damaged files and {steps} steps each");
@@ -64,6 +71,54 @@ fn main() {
     for (code, by_train) in [11, 28].into_iter().zip(places) {
         for (train, counts) in ["1", "later ones"].into_iter().zip(by_train) {
             println!("{code:4}  {train:10} {counts:6?}");
+        }
+    }
+    println!("kind  sent, answered yes, answered no, heard");
+    for (wish, counts) in WISHES.into_iter().zip(messages.counts) {
+        println!("{:4}  {counts:6?}", wish as u8);
+    }
+    let [again, handed_on] = messages.after_back;
+    println!("given back, then had again by the same train: {again}, by another one: {handed_on}");
+}
+
+/// What became of messages.
+#[derive(Default)]
+struct Messages {
+    /// For each wish: sent, answered yes, answered no, heard.
+    counts: [[usize; 4]; 4],
+    /// The train that has given back a segment at a box, or the lock (segment 0).
+    given_back: HashMap<(u8, u8), u8>,
+    /// What was given back and is had again by the same train, or by another one.
+    after_back: [usize; 2],
+}
+
+/// The message of the train that a step is about.
+fn message_of(line: &Line, [_, train, _]: Step) -> Message {
+    line.trains.get(usize::from(train).wrapping_sub(1)).map_or(Message::None, |t| t.message)
+}
+
+impl Messages {
+    /// Counts a step with its code, the message before it and the line after it.
+    fn add(&mut self, line: &Line, bytes: Step, code: u8, before: Message) {
+        let (column, request) = match (before, message_of(line, bytes)) {
+            (Message::None, Message::Sent(request)) => (0, request),
+            (Message::Sent(_), Message::Answered(request, 0)) => (1, request),
+            (Message::Sent(_), Message::Answered(request, _)) => (2, request),
+            (Message::Answered(request, _), Message::None) => (3, request),
+            _ => return,
+        };
+        let row = WISHES.iter().position(|&wish| wish == request.wish).expect("all wishes are listed");
+        self.counts[row][column] += 1;
+        if (column, code) != (1, 0) {
+            return;
+        }
+        let train = bytes[1];
+        let next = line.trains[usize::from(train) - 1].next_segment().unwrap_or(0);
+        let what = (request.number, if request.wish.of_lock() { 0 } else { next });
+        if request.wish.gives_back() {
+            self.given_back.insert(what, train);
+        } else if let Some(giver) = self.given_back.remove(&what) {
+            self.after_back[usize::from(giver != train)] += 1;
         }
     }
 }

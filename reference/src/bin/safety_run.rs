@@ -2,6 +2,7 @@
 //! Arguments: seed, number of tables, steps per table.
 
 use reference::argument::argument;
+use reference::counts::refuses_step;
 use reference::demand::{Checker, Clauses, CLAUSES};
 use reference::generate::prng::Prng;
 use reference::generate::steps::Driver;
@@ -14,7 +15,7 @@ use reference::table_write::file_bytes;
 
 fn main() {
     let (seed, tables, steps) = (argument(1, 1), argument(2, 1500), argument(3, 1000));
-    let (mut violations, mut entered, mut cleared, mut atomic) = (0u64, 0u64, 0u64, 0u64);
+    let (mut violations, mut entered, mut cleared, mut back, mut atomic) = (0u64, 0u64, 0u64, 0u64, 0u64);
     let (mut record_checks, mut record_faults) = (0u64, 0u64);
     let mut broken = Clauses::default();
     for case in 0..tables {
@@ -40,11 +41,12 @@ fn main() {
             let answer = step(&mut line, bytes);
             entered += u64::from(bytes[0] == 5 && answer == 0);
             cleared += u64::from(bytes[0] == 6 && answer == 0);
+            back += u64::from(matches!(bytes[0], 7 | 8) && answer == 0);
             note(checker.observe(bytes, answer, &line));
             if let Some(before) = sample {
                 let mut checked = before.clone();
                 let same = step_checked(&mut checked, bytes) == answer && checked == line;
-                let kept = !(13..=21).contains(&answer) || before == line;
+                let kept = !refuses_step(answer) || before == line;
                 record_checks += 1;
                 record_faults += u64::from(!same || !kept || record_code(&line) != 0);
             }
@@ -52,7 +54,7 @@ fn main() {
         atomic += checker.order_length;
     }
     println!("seed {seed}: {tables} tables, {} steps", tables * steps);
-    println!("entered {entered}, cleared {cleared}, atomic steps {atomic}");
+    println!("entered {entered}, cleared {cleared}, give-backs sent {back}, atomic steps {atomic}");
     println!("records checked against code 27: {record_checks}, faults {record_faults}");
     for clause in CLAUSES.into_iter().filter(|&c| broken.has(c)) {
         println!("broken: {clause:?}");

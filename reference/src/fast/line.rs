@@ -199,7 +199,7 @@ impl Line {
         let Message { state, request, code } = t.message;
         let [state, kind, number, code] = match state {
             State::None => [0; 4],
-            _ => [state as u8, request.wish as u8 + 1, request.number, code],
+            _ => [state as u8, request.wish as u8, request.number, code],
         };
         [route.direction, route.length, t.place, t.covered, near, far, lock, state, kind, number, code]
     }

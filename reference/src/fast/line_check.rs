@@ -44,11 +44,13 @@ impl Line {
 fn message_fails(train: &Train) -> bool {
     let (Message { state, request, code }, around) = (train.message, &train.around);
     let code = if state == State::Answered { code } else { 0 };
+    let at_end = request.number == around.ahead || request.number == around.beyond;
+    let at_point = request.number == around.ahead && around.point;
     let fits = match request.wish {
-        Wish::Reservation => {
-            matches!(code, 0 | 22) && (request.number == around.ahead || request.number == around.beyond)
-        }
-        Wish::Lock => matches!(code, 0 | 23..=25) && request.number == around.ahead && around.point,
+        Wish::Reservation => matches!(code, 0 | 22) && at_end,
+        Wish::Lock => matches!(code, 0 | 23..=25) && at_point,
+        Wish::ReservationBack => code == 0 && at_end,
+        Wish::LockBack => code == 0 && at_point,
     };
     state != State::None && (around.next == 0 || !fits)
 }

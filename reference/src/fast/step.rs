@@ -1,4 +1,4 @@
-//! Steps: kinds 1 to 6, codes 13 to 25.
+//! Steps: kinds 1 to 8, codes 13 to 25 and 29.
 
 use super::line::{Line, Message, State, Train};
 use crate::line::{Request, Wish};
@@ -33,7 +33,7 @@ impl Line {
     #[inline(always)]
     pub fn step(&mut self, [kind, train, number]: Step) -> u8 {
         match kind {
-            1 | 2 => {}
+            1 | 2 | 7 | 8 => {}
             3..=6 if number == 0 => {}
             _ => return 13,
         }
@@ -48,7 +48,9 @@ impl Line {
             3 => self.answer(index, train),
             4 => self.trains[index].hear(),
             5 => self.enter(index),
-            _ => self.clear(index),
+            6 => self.clear(index),
+            7 => self.trains[index].give_back_reservation(number),
+            _ => self.trains[index].give_back_lock(number),
         }
     }
 
@@ -85,6 +87,12 @@ impl Line {
                     0
                 }
             }
+            Wish::ReservationBack => {
+                let at_ahead = request.number == around.ahead;
+                let slot = if at_ahead { around.next_ahead } else { around.next_beyond };
+                free(&mut self.holders[usize::from(slot)], me)
+            }
+            Wish::LockBack => free(&mut self.boxes[usize::from(around.ahead) - 1].lock, me),
         };
         train.message = Message { state: State::Answered, request, code };
         code
@@ -126,6 +134,14 @@ impl Line {
     }
 }
 
+/// A box frees what the train gives back, if it is the train's, and says yes.
+fn free(holder: &mut u8, me: u8) -> u8 {
+    if *holder == me {
+        *holder = 0;
+    }
+    0
+}
+
 impl Train {
     /// Kind 1.
     fn request_reservation(&mut self, number: u8) -> u8 {
@@ -161,6 +177,42 @@ impl Train {
         }
     }
 
+    /// Kind 7.
+    fn give_back_reservation(&mut self, number: u8) -> u8 {
+        let around = &self.around;
+        let at_ahead = number == around.ahead;
+        let recorded = if at_ahead { &mut self.near } else { &mut self.far };
+        if self.message.state != State::None {
+            15
+        } else if around.next == 0 {
+            16
+        } else if !(at_ahead || number == around.beyond) {
+            17
+        } else if !*recorded {
+            29
+        } else {
+            *recorded = false;
+            self.send(Wish::ReservationBack, number)
+        }
+    }
+
+    /// Kind 8.
+    fn give_back_lock(&mut self, number: u8) -> u8 {
+        let around = &self.around;
+        if self.message.state != State::None {
+            15
+        } else if around.next == 0 {
+            16
+        } else if number != around.ahead || !around.point {
+            17
+        } else if !self.lock {
+            29
+        } else {
+            self.lock = false;
+            self.send(Wish::LockBack, number)
+        }
+    }
+
     fn send(&mut self, wish: Wish, number: u8) -> u8 {
         self.message = Message { state: State::Sent, request: Request { wish, number }, code: 0 };
         0
@@ -178,6 +230,7 @@ impl Train {
                 Wish::Lock => self.lock = true,
                 Wish::Reservation if request.number == self.around.ahead => self.near = true,
                 Wish::Reservation => self.far = true,
+                Wish::ReservationBack | Wish::LockBack => {}
             }
         }
         code

@@ -158,6 +158,8 @@ fn step_words([kind, train, number]: Step) -> String {
         4 => format!("train {train} hears the answer"),
         5 => format!("train {train} enters its next segment"),
         6 => format!("train {train} clears the box behind"),
+        7 => format!("train {train} gives its next segment back to box {number}"),
+        8 => format!("train {train} gives the lock back to box {number}"),
         _ => format!("there is no kind {kind}"),
     }
 }

@@ -39,11 +39,15 @@ pub enum Aim {
     WrongBox,
     /// An answer's code that is none of the box's.
     AnswerCode,
+    /// The same three of a give-back of this kind, 7 or 8.
+    BackNoNext(u8),
+    BackWrongBox(u8),
+    BackCode(u8),
     /// Nothing: the record passes.
     Nothing,
 }
 
-pub const AIMS: [Aim; 29] = [
+pub const AIMS: [Aim; 35] = [
     Aim::Table(3),
     Aim::Table(4),
     Aim::Table(6),
@@ -72,6 +76,12 @@ pub const AIMS: [Aim; 29] = [
     Aim::NoNext,
     Aim::WrongBox,
     Aim::AnswerCode,
+    Aim::BackNoNext(7),
+    Aim::BackNoNext(8),
+    Aim::BackWrongBox(7),
+    Aim::BackWrongBox(8),
+    Aim::BackCode(7),
+    Aim::BackCode(8),
     Aim::Nothing,
 ];
 
@@ -87,8 +97,8 @@ impl Aim {
             Aim::CoversNone | Aim::CoversThree => RecordFault::Covering,
             Aim::Position => RecordFault::Position,
             Aim::LockHolder | Aim::StemHolder | Aim::LeftHolder | Aim::RightHolder => RecordFault::Holder,
-            Aim::NoNext | Aim::WrongBox => RecordFault::Message,
-            Aim::AnswerCode => RecordFault::AnswerCode,
+            Aim::NoNext | Aim::WrongBox | Aim::BackNoNext(_) | Aim::BackWrongBox(_) => RecordFault::Message,
+            Aim::AnswerCode | Aim::BackCode(_) => RecordFault::AnswerCode,
             Aim::Nothing => return None,
         })
     }
@@ -141,7 +151,7 @@ fn fits(line: &Line, i: usize, aim: Aim) -> bool {
         Aim::PlaceZero | Aim::Length => idle,
         Aim::TailOutside => train.front == 0,
         Aim::CoversThree => idle && train.route.len() >= 3,
-        Aim::WrongBox | Aim::AnswerCode => train.next_segment().is_some(),
+        Aim::WrongBox | Aim::AnswerCode | Aim::BackWrongBox(_) | Aim::BackCode(_) => train.next_segment().is_some(),
         _ => true,
     }
 }
@@ -174,22 +184,52 @@ fn train_changes(rng: &mut Prng, line: &Line, i: usize, aim: Aim) -> Vec<Change>
         Aim::CoversNone => vec![[b't', t, 3, 0]],
         Aim::CoversThree => vec![[b't', t, 2, rng.between(3, length as usize) as u8], [b't', t, 3, 3]],
         // The route ends before next, which still stands behind it, and the message would be right for it.
-        Aim::NoNext if train.next_segment().is_some() => {
-            let mut all = message_change(rng, line, i);
+        Aim::NoNext | Aim::BackNoNext(_) if train.next_segment().is_some() => {
+            let wish = wish_of(rng, aim);
+            let mut all = message_change(rng, line, i, wish);
             all.push([b't', t, 1, train.front as u8 + 1]);
             all
         }
-        Aim::NoNext => vec![[b'm', t, rng.between(1, 4) as u8, line.box_ahead(i)]],
-        Aim::WrongBox => {
+        Aim::NoNext | Aim::BackNoNext(_) => {
+            let (wish, answered) = (wish_of(rng, aim), rng.chance(50));
+            vec![message_field(t, wish, answered, line.box_ahead(i))]
+        }
+        Aim::WrongBox | Aim::BackWrongBox(_) => {
             let any = rng.between(1, m) as u8;
             let number = rng.pick(&[0, m as u8 + 1, 255, any, line.box_behind(i), line.box_ahead(i)]);
-            vec![[b'm', t, rng.between(1, 4) as u8, number]]
+            let (wish, answered) = (wish_of(rng, aim), rng.chance(50));
+            vec![message_field(t, wish, answered, number)]
         }
         _ => {
-            let (ahead, code) = (line.box_ahead(i), rng.pick(&[1, 15, 21, 22, 23, 24, 25, 26, 27, 255]));
-            vec![[b'm', t, rng.between(3, 4) as u8, ahead], [b'm', t, 5, code]]
+            let (ahead, wish) = (line.box_ahead(i), wish_of(rng, aim));
+            let code = match aim {
+                Aim::BackCode(_) => rng.pick(&[1, 18, 22, 22, 23, 24, 25, 29, 255]),
+                _ => rng.pick(&[1, 15, 21, 22, 23, 24, 25, 26, 27, 29, 255]),
+            };
+            vec![message_field(t, wish, true, ahead), [b'm', t, 5, code]]
         }
     }
+}
+
+/// The wish of an aim's message.
+fn wish_of(rng: &mut Prng, aim: Aim) -> Wish {
+    match aim {
+        Aim::BackNoNext(kind) | Aim::BackWrongBox(kind) | Aim::BackCode(kind) => {
+            Wish::of_kind(kind).expect("the kind of a give-back")
+        }
+        _ => rng.pick(&[Wish::Reservation, Wish::Lock]),
+    }
+}
+
+/// The change that gives a train such a message, sent or answered yes.
+fn message_field(train: u8, wish: Wish, answered: bool, number: u8) -> Change {
+    let field = match wish {
+        Wish::Reservation => 1,
+        Wish::Lock => 2,
+        Wish::ReservationBack => 6,
+        Wish::LockBack => 7,
+    };
+    [b'm', train, field + 2 * u8::from(answered), number]
 }
 
 /// Changes of the table part meant for a code.
@@ -273,7 +313,10 @@ fn harmless(rng: &mut Prng, line: &Line) -> Vec<Change> {
     for _ in 0..rng.between(1, 4) {
         match rng.below(10) {
             0..=3 => all.push(box_change(rng, line, i)),
-            4 | 5 => all.extend(message_change(rng, line, i)),
+            4 | 5 => {
+                let wish = rng.pick(&WISHES);
+                all.extend(message_change(rng, line, i, wish));
+            }
             6 | 7 => all.push([b't', i as u8, rng.between(4, 6) as u8, rng.below(2) as u8]),
             8 => all.extend(place_changes(rng, line, i)),
             _ => all.extend(unused_change(rng, line)),
@@ -305,23 +348,29 @@ fn box_change(rng: &mut Prng, line: &Line, i: usize) -> Change {
     [b'b', number - 1, field, value]
 }
 
-/// A message that 16 and 17 let through, with a code that its box gives.
-fn message_change(rng: &mut Prng, line: &Line, i: usize) -> Vec<Change> {
+/// A message that 16 and 17 let through, with a code that its box gives. One about a lock is about a reservation where
+/// the box ahead is no point.
+fn message_change(rng: &mut Prng, line: &Line, i: usize, wish: Wish) -> Vec<Change> {
     let t = i as u8;
     let Some((_, near, far, ahead)) = ends_of_next(line, i) else {
         return vec![[b'm', t, 0, 0]];
     };
     let point = line.table.boxes[ahead as usize - 1].kind == POINT;
-    let (number, lock) = match rng.below(4) {
-        0 | 1 if point => (ahead, 1),
-        0 | 2 => (near, 0),
-        _ => (far, 0),
+    let wish = match wish {
+        Wish::Lock if !point => Wish::Reservation,
+        Wish::LockBack if !point => Wish::ReservationBack,
+        _ => wish,
     };
-    let no = if lock == 1 { rng.between(23, 25) as u8 } else { 22 };
+    let number = if wish.of_lock() { ahead } else { rng.pick(&[near, far]) };
+    let no = match wish {
+        Wish::Reservation => 22,
+        Wish::Lock => rng.between(23, 25) as u8,
+        Wish::ReservationBack | Wish::LockBack => 0,
+    };
     match rng.below(4) {
-        0 | 1 => vec![[b'm', t, 1 + lock, number]],
-        2 => vec![[b'm', t, 3 + lock, number]],
-        _ => vec![[b'm', t, 3 + lock, number], [b'm', t, 5, no]],
+        0 | 1 => vec![message_field(t, wish, false, number)],
+        3 if no != 0 => vec![message_field(t, wish, true, number), [b'm', t, 5, no]],
+        _ => vec![message_field(t, wish, true, number)],
     }
 }
 
@@ -387,7 +436,7 @@ pub fn step_on(rng: &mut Prng, line: &Line, changes: &[Change]) -> Step {
     };
     let me = i as u8 + 1;
     if k == 0 || rng.chance(6) {
-        return [rng.below(9) as u8, rng.below(k + 2) as u8, rng.below(3) as u8];
+        return [rng.below(11) as u8, rng.below(k + 2) as u8, rng.below(3) as u8];
     }
     let m = line.boxes.len();
     let (near, far) = match ends_of_next(line, i) {
@@ -395,11 +444,13 @@ pub fn step_on(rng: &mut Prng, line: &Line, changes: &[Change]) -> Step {
         None => (line.box_ahead(i), rng.between(1, m) as u8),
     };
     let requests = [[1, me, near], [1, me, far], [2, me, near], [rng.between(1, 2) as u8, me, rng.between(1, m) as u8]];
+    let backs = [[7, me, near], [7, me, far], [8, me, near], [rng.between(7, 8) as u8, me, rng.between(1, m) as u8]];
     match line.trains[i].message {
         Message::Sent(_) if rng.chance(75) => [3, me, 0],
         Message::Answered(..) if rng.chance(75) => [4, me, 0],
-        _ => match rng.below(8) {
+        _ => match rng.below(11) {
             0..=3 => rng.pick(&requests),
+            8..=10 => rng.pick(&backs),
             4 | 5 => [5, me, 0],
             6 => [6, me, 0],
             _ => [rng.between(3, 4) as u8, me, 0],

@@ -1,9 +1,9 @@
-//! The smallest example of each code 1 to 28, found by search.
+//! The smallest example of each code 1 to 29, found by search.
 //!
 //! - Accepted files: fewer bytes are smaller, then lower bytes, the first that differs deciding.
 //! - Refused files (1 to 12 and 28): fewer bytes are smaller; then fewer places that differ from the smallest
 //!   accepted file, as far as both go, so that little but the fault is wrong; then lower bytes.
-//! - Steps (13 to 25): the smallest accepted file on which some list of steps has the code, and the
+//! - Steps (13 to 25 and 29): the smallest accepted file on which some list of steps has the code, and the
 //!   shortest such list; among lists of one length the one with the lowest bytes.
 //! - A short buffer (26): the smallest accepted file and one byte less.
 //! - Line records (27): the start line of the smallest accepted file with one field of a box changed, the
@@ -17,6 +17,7 @@
 
 use super::example::Example;
 use super::small_tables::{Files, HEAD};
+use crate::counts::refuses_step;
 use crate::line::start_line;
 use crate::refusal::code_of;
 use crate::step::{step, Step};
@@ -27,8 +28,10 @@ use std::collections::{HashSet, VecDeque};
 
 /// No example needs a longer file.
 const LONGEST: usize = 60;
+/// The codes of steps, in the order of their numbers; those of other examples stand before the last of them.
+const STEP_CODES: [u8; 14] = [13, 14, 15, 16, 17, 18, 19, 20, 21, 22, 23, 24, 25, 29];
 
-/// The examples of the codes 1 to 28.
+/// The examples of the codes 1 to 29.
 pub fn smallest_examples() -> Vec<Example> {
     let accepted = smallest_accepted();
     let refused = |code: u8| {
@@ -39,8 +42,10 @@ pub fn smallest_examples() -> Vec<Example> {
         Example { file: file.expect("the code is found"), ..Example::default() }
     };
     let short = Example { buffer: Some(accepted.len() - 1), file: accepted.clone(), ..Example::default() };
-    let others = step_examples().into_iter().chain([short, changed_record(&accepted)]);
-    (1..=12).map(refused).chain(others).chain([refused(28)]).collect()
+    let mut steps = step_examples();
+    let last = steps.split_off(STEP_CODES.len() - 1);
+    let others = steps.into_iter().chain([short, changed_record(&accepted)]);
+    (1..=12).map(refused).chain(others).chain([refused(28)]).chain(last).collect()
 }
 
 /// The smallest accepted file.
@@ -79,12 +84,12 @@ fn refused_body(code: u8, like: &[u8]) -> Option<Vec<u8>> {
     sizes.map(files).find_map(|files| files.first(&mut { refused }))
 }
 
-/// The examples of the codes 13 to 25.
+/// The examples of the codes of steps.
 fn step_examples() -> Vec<Example> {
-    let mut examples: Vec<Option<Example>> = vec![None; 13];
+    let mut examples: Vec<Option<Example>> = vec![None; STEP_CODES.len()];
     for length in 0..LONGEST {
-        let missing = (13..=25).filter(|code| examples[*code as usize - 13].is_none());
-        let Some(trains) = missing.map(trains_for).min() else {
+        let missing = STEP_CODES.into_iter().zip(&examples).filter(|(_, example)| example.is_none());
+        let Some(trains) = missing.map(|(code, _)| trains_for(code)).min() else {
             break;
         };
         Files::accepted(length, trains).first::<()>(&mut |table| {
@@ -97,14 +102,15 @@ fn step_examples() -> Vec<Example> {
 
 /// Adds what the table is the first to show, if it is accepted.
 fn add_examples(examples: &mut [Option<Example>], table: &Table) {
-    let missing = |code: &u8| examples[*code as usize - 13].is_none() && may_show(table, *code);
-    let codes: Vec<u8> = (13..=25).filter(missing).collect();
+    let missing = STEP_CODES.into_iter().zip(&*examples).filter(|(_, example)| example.is_none());
+    let codes: Vec<u8> = missing.map(|(code, _)| code).filter(|&code| may_show(table, code)).collect();
     let file = file_bytes(table);
     if codes.is_empty() || read_table(&file).is_err() {
         return;
     }
     for (code, steps) in shortest_lists(table, &codes) {
-        examples[code as usize - 13] = Some(Example { file: file.clone(), steps, ..Example::default() });
+        let place = STEP_CODES.iter().position(|&other| other == code).expect("a code of steps");
+        examples[place] = Some(Example { file: file.clone(), steps, ..Example::default() });
     }
 }
 
@@ -144,7 +150,7 @@ fn shortest_lists(table: &Table, codes: &[u8]) -> Vec<(u8, Vec<Step>)> {
             if codes.contains(&code) && found.iter().all(|&(other, _)| other != code) {
                 found.push((code, list()));
             }
-            if !(13..=21).contains(&code) && seen.insert((after.boxes.clone(), after.trains.clone())) {
+            if !refuses_step(code) && seen.insert((after.boxes.clone(), after.trains.clone())) {
                 open.push_back((after, list()));
             }
         }
@@ -160,7 +166,7 @@ fn shortest_lists(table: &Table, codes: &[u8]) -> Vec<(u8, Vec<Step>)> {
 fn steps_of(table: &Table) -> Vec<Step> {
     let (k, m) = (table.trains.len() as u8, table.boxes.len() as u8);
     let trains = |kind| (0..=k + 1).flat_map(move |train| (0..=m + 1).map(move |number| [kind, train, number]));
-    (0..=7).flat_map(trains).collect()
+    (0..=9).flat_map(trains).collect()
 }
 
 /// The example of code 27.

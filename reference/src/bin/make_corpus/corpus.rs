@@ -48,11 +48,15 @@ pub struct Corpus {
     pub list_codes: Counts,
     pub made_up_codes: Counts,
     /// How many made-up records have each aim.
-    pub aims: [usize; AIMS.len()],
+    pub aims: Vec<usize>,
     steps: Vec<u8>,
 }
 
 impl Corpus {
+    pub fn new() -> Self {
+        Corpus { aims: vec![0; AIMS.len()], ..Corpus::default() }
+    }
+
     pub fn file(&mut self, bytes: &[u8]) {
         self.records.push(b'F');
         self.number(bytes.len());

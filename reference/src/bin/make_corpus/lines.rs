@@ -14,7 +14,7 @@ use reference::table_read::read_table;
 
 const S_STEPS: &[u8] = include_bytes!("../../../../samples/s/steps");
 /// Codes that few lists have, and how many steps have each of them at least.
-const RARE: [u8; 3] = [23, 24, 18];
+const RARE: [u8; 4] = [23, 24, 18, 29];
 const FEWEST_RARE: usize = 30;
 /// How many made-up records each aim has at least; how many tables there are for them at
 /// least, and how many records pass for each.
@@ -22,13 +22,13 @@ pub const FEWEST_AIMED: usize = 6;
 const TABLES: u64 = 16;
 const PASSING: usize = 28;
 
-/// A request, its answer, and the answer heard.
+/// A request or a give-back, its answer, and the answer heard.
 fn asked(kind: u8, train: u8, number: u8) -> Vec<u8> {
     vec![kind, train, number, 3, train, 0, 4, train, 0]
 }
 
 /// Lists for table S and its track with other trains: every front part of the ten steps of its
-/// printout, and the paper's cases.
+/// printout, and the papers' cases.
 pub fn paper_lists(corpus: &mut Corpus) {
     corpus.file(S);
     for length in 0..=S_STEPS.len() {
@@ -37,6 +37,8 @@ pub fn paper_lists(corpus: &mut Corpus) {
     let passage = [asked(1, 1, 2), asked(1, 1, 3), asked(2, 1, 2), vec![5, 1, 0, 6, 1, 0]].concat();
     corpus.steps(&passage);
     records_of_s(corpus);
+    // The lock of the box being crossed is recorded, and neither asked for nor given back there.
+    corpus.steps(&[&passage[..30], &[2, 1, 2, 8, 1, 2, 1, 1, 2, 7, 1, 2, 7, 1, 3, 8, 1, 3]].concat());
     corpus.steps(&[asked(1, 1, 2), vec![1, 1, 2, 1, 1, 4]].concat());
     let with = |corpus: &mut Corpus, trains: &[(u8, &[u8])], steps: &[u8]| {
         let mut table = read_table(S).expect("table S is accepted");
@@ -47,7 +49,29 @@ pub fn paper_lists(corpus: &mut Corpus) {
     with(corpus, &[(0, &[1, 2, 4]), (1, &[4, 2, 1])], &[asked(1, 1, 2), asked(1, 2, 2)].concat());
     let contest = [asked(1, 1, 3), asked(1, 1, 4), asked(2, 1, 3), asked(2, 2, 3), vec![5, 1, 0], asked(2, 2, 3)];
     with(corpus, &[(0, &[2, 4]), (0, &[3, 4])], &contest.concat());
-    with(corpus, &[(0, &[1])], &[5, 1, 0, 6, 1, 0]);
+    // Train 1 gives back segment 2, which train 2 then gets; the line after each step.
+    let back = [asked(1, 1, 2), asked(7, 1, 2), asked(1, 2, 2)].concat();
+    with(corpus, &[(0, &[1, 2, 4]), (1, &[4, 2, 1])], &back);
+    (4..9).for_each(|taken| corpus.steps(&back[..3 * taken]));
+    // A give-back of nothing, at a wrong box, with the give-back open, and asked for again.
+    corpus.steps(&[vec![7, 1, 2, 8, 1, 2, 7, 1, 4, 8, 1, 3], back[..12].to_vec(), vec![7, 1, 2, 8, 1, 2]].concat());
+    let again = [asked(7, 1, 2), vec![5, 1, 0, 7, 1, 2], asked(1, 1, 2), vec![5, 1, 0]].concat();
+    corpus.steps(&[asked(1, 1, 2), asked(1, 1, 3), asked(2, 1, 2), again].concat());
+    // Train 1 gives back the lock of box 3 and segment 4 at both ends; train 2 asks after each, and enters.
+    let locked = [asked(1, 1, 3), asked(1, 1, 4), asked(2, 1, 3)].concat();
+    let lock_first = [asked(8, 1, 3), asked(2, 2, 3), asked(1, 2, 3), asked(7, 1, 3)];
+    let lock_last = [asked(7, 1, 3), asked(1, 2, 3), asked(2, 2, 3), asked(8, 1, 3)];
+    let last = vec![5, 2, 0, 8, 2, 3, 7, 2, 4];
+    let rest = [asked(1, 2, 3), asked(2, 2, 3), asked(7, 1, 4), asked(1, 2, 4), last].concat();
+    with(corpus, &[(0, &[2, 4]), (0, &[3, 4])], &[&locked[..], &lock_first.concat(), &rest].concat());
+    corpus.steps(&[&locked[..], &lock_last.concat(), &rest].concat());
+    (1..3).for_each(|taken| corpus.steps(&[&locked[..], &lock_first.concat()[..3 * taken]].concat()));
+    // The position stays when the lock is given back.
+    with(corpus, &[(0, &[1, 3, 4])], &[asked(1, 1, 2), asked(2, 1, 2), asked(8, 1, 2)].concat());
+    // A crossing train at the end of its route.
+    let to_end = [asked(1, 1, 2), asked(1, 1, 3), asked(2, 1, 2), vec![5, 1, 0, 5, 1, 0, 7, 1, 3, 8, 1, 3, 6, 1, 0]];
+    with(corpus, &[(0, &[1, 2])], &to_end.concat());
+    with(corpus, &[(0, &[1])], &[5, 1, 0, 6, 1, 0, 7, 1, 1, 8, 1, 2]);
     with(corpus, &[], &[1, 1, 1, 5, 1, 0, 0, 0, 0, 3]);
     // Refused routes: the run tells train and place.
     with(corpus, &[(0, &[2, 3]), (1, &[4, 3, 1])], S_STEPS);
@@ -61,11 +85,13 @@ pub fn paper_lists(corpus: &mut Corpus) {
     corpus.steps(&S_STEPS[..4]);
 }
 
-/// Made-up records of train 1's passage over box 2 of table S that pass 27: what the box answers, and
-/// what a move does, where no list of steps leads.
+/// Made-up records of train 1's passage over box 2 of table S that pass 27: what the box answers, what
+/// the train hears, and what a move does, where no list of steps leads.
 fn records_of_s(corpus: &mut Corpus) {
     let lock = [b'm', 0, 2, 2];
     let reserve = [b'm', 0, 1, 2];
+    let (back, lock_back) = ([b'm', 0, 6, 2], [b'm', 0, 7, 2]);
+    let (taken_back, lock_taken_back) = ([b'm', 0, 8, 2], [b'm', 0, 9, 2]);
     let sensor = [b'b', 1, 0, 1];
     let locked = |train: u8| [b'b', 1, 2, train];
     let front = |train: u8| [b'b', 1, 3, train];
@@ -73,9 +99,10 @@ fn records_of_s(corpus: &mut Corpus) {
     let other = |train: u8| [b'b', 1, 5, train];
     let (near, far, own) = ([b't', 0, 4, 1], [b't', 0, 5, 1], [b't', 0, 6, 1]);
     let answer: Step = [3, 1, 0];
+    let hear: Step = [4, 1, 0];
     let enter: Step = [5, 1, 0];
     let clear: Step = [6, 1, 0];
-    let records: [(usize, &[Change], Step); 20] = [
+    let records: [(usize, &[Change], Step); 38] = [
         // A lock: 23 before 24 before 25; front and next both count; what is the train's own is a yes.
         (9, &[lock], answer),
         (9, &[lock, sensor], answer),
@@ -92,6 +119,27 @@ fn records_of_s(corpus: &mut Corpus) {
         (0, &[reserve, next(1)], answer),
         (0, &[reserve, next(2)], answer),
         (0, &[reserve, next(0), other(2)], answer),
+        // A give-back frees what is the train's own, and nothing of another train; it is always a yes.
+        (0, &[back, next(1)], answer),
+        (0, &[back, next(2)], answer),
+        (0, &[back, next(0)], answer),
+        (0, &[back, next(1), other(1), locked(1)], answer),
+        (9, &[lock_back, locked(1)], answer),
+        (9, &[lock_back, locked(2)], answer),
+        (9, &[lock_back, locked(0)], answer),
+        (9, &[lock_back, locked(1), sensor, other(1)], answer),
+        // Hearing it records nothing, and drops nothing.
+        (0, &[taken_back, next(1)], hear),
+        (0, &[taken_back, near, far, own], hear),
+        (0, &[lock_taken_back, locked(1)], hear),
+        (0, &[lock_taken_back, near, own], hear),
+        // Sending asks the train's records alone.
+        (0, &[near, next(2)], [7, 1, 2]),
+        (9, &[[b't', 0, 4, 0], far], [7, 1, 2]),
+        (0, &[own, locked(2)], [8, 1, 2]),
+        (9, &[locked(1)], [8, 1, 2]),
+        (0, &[near, far, own, back], enter),
+        (0, &[near, far, own, lock_taken_back], enter),
         // Enter asks the train's records alone, and no message stops it.
         (0, &[near, far, own, locked(2), sensor], enter),
         (0, &[near, far, own, reserve], enter),

@@ -1,7 +1,7 @@
 //! Makes the corpus of the program `cases` and the text that it must write, with this
 //! implementation alone. The argument is a directory: the corpus goes to its file `stdin`, the text
 //! to its file `stdout`, and what they hold to standard error. It begins with the smallest example of
-//! each code 1 to 28.
+//! each code 1 to 29.
 //!
 //! The corpus is a list of records. Numbers of two bytes have the high byte first.
 //!
@@ -45,12 +45,12 @@ use std::path::Path;
 const MOST_CORPUS: usize = 260_000;
 const MOST_FILE: usize = 4_800;
 const MOST_TEXT: usize = 600_000;
-/// How many steps of lists have each code 0 and 13 to 25 at least.
+/// How many steps of lists have each code 0, 13 to 25 and 29 at least.
 const FEWEST_STEPS: usize = 20;
 
 /// The corpus, and how many files of its damaged part have each code.
 fn make() -> (Corpus, Counts) {
-    let mut corpus = Corpus::default();
+    let mut corpus = Corpus::new();
     examples::smallest(&mut corpus);
     files::table_s(&mut corpus);
     files::accepted(&mut corpus);
@@ -113,8 +113,8 @@ fn print_counts(corpus: &Corpus, aimed: &Counts) {
         eprintln!("{code:4} {:6} {:6}", corpus.list_codes[code], corpus.made_up_codes[code]);
     }
     eprintln!("made-up records by what they break");
-    for (aim, count) in AIMS.iter().zip(corpus.aims) {
-        eprintln!("{:12} {count:6}", format!("{aim:?}"));
+    for (aim, count) in AIMS.iter().zip(&corpus.aims) {
+        eprintln!("{:15} {count:6}", format!("{aim:?}"));
     }
 }
 
@@ -150,11 +150,11 @@ mod tests {
 
     /// Each fault of the steps changes the text of some list or made-up record, but for records kept at
     /// Clear, which no step tells, and 16 before 15, which no record that passes 27 tells. Each fault of the
-    /// record check changes the text of some made-up record.
+    /// record check changes the text of some made-up record. A fault in demand 3 changes no step.
     #[test]
     fn every_other_fault_shows() {
         let (corpus, _) = make();
-        for &fault in FAULTS.iter().filter(|fault| !fault.in_reader()) {
+        for &fault in FAULTS.iter().filter(|fault| !fault.in_reader() && !fault.in_demand()) {
             let run = |run: &corpus::Run, fault: Fault| {
                 let mut line = start_line_with(&read_table(&run.file).ok()?, fault);
                 let whole = run.steps.chunks_exact(3).map(|s| -> Step { s.try_into().unwrap() });

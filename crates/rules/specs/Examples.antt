@@ -2,7 +2,8 @@
 -- it. proofs/Examples.antt proves that the definitions give what each says. On table S train 1 starts on 1 and goes over 2 to 4,
 -- train 2 starts on 4 and goes over 3 to 1. Box 2 is a point with stem 1, left 2 and right 3, box 3 a point with stem 4, left 2
 -- and right 3; boxes 1 and 4 are borders, at the outer ends of 1 and 4.
--- Steps are kind, train, box: 1 asks for next at a box, 2 for its lock, 3 the box answers, 4 the train hears, 5 Enter, 6 Clear.
+-- Steps are kind, train, box: 1 asks for next at a box, 2 for its lock, 3 the box answers, 4 the train hears, 5 Enter, 6 Clear, 7 gives
+-- next back at a box, 8 its lock.
 use Prim.Native.Nat.{ℕ, _+_, _-_}
 use mathlib.Core.Bool.{Bool, true, false, cond}
 use mathlib.Core.List.{List, [], _∷_, _++_, map}
@@ -181,8 +182,27 @@ locked =
           };
     }
 
+-- Train 1 goes onto 2, reserves 4 at box 4 and gives it back. While that message is under way train 2 reserves 3 at box 3. The order has
+-- the give-back where box 4 answers it.
+unfoldable pub givenBack : Example
+givenBack =
+    record {
+      events = allowed (passage ++ asked 1 1 4 ++ (stepOf 7 1 4 ∷ []) ++ asked 1 2 3 ++ (stepOf 3 1 0 ∷ []));
+      order = passageOrder ++ (stepOf 1 1 4 ∷ stepOf 1 2 3 ∷ stepOf 7 1 4 ∷ []);
+      scene =
+          record {
+            trains = record { front = 2; tail = 0 } ∷ record { front = 4; tail = 0 } ∷ [];
+            boxes =
+                freeBorder
+                ∷ record { sensor = false; position = 1; lock = 0; stem = 0; left = 0; right = 0 }
+                ∷ record { sensor = false; position = 1; lock = 0; stem = 2; left = 1; right = 2 }
+                ∷ freeBorder
+                ∷ [];
+          };
+    }
+
 unfoldable pub examples : List Example
-examples = delayed ∷ held ∷ locked ∷ []
+examples = delayed ∷ held ∷ locked ∷ givenBack ∷ []
 
 -- What code 9 keeps out. Segment 1 runs from box 1 to box 2 and segment 2 back, and 3 leads away at box 2, a point with stem 1. Train
 -- 1 goes round, 1, 2, 1; train 2 comes from 3. While train 1 crosses box 2, its tail 1 is also its next: box 2 has 1 reserved for

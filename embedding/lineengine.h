@@ -38,10 +38,10 @@ extern "C" {
 #endif
 
 /* The version of this interface. The second number grows when something is added and every program that was right stays right;
- * the first grows, and the second is 0 again, when a name, a parameter, a code, a size or a promise changes. It is not the
- * version in the head of a table. */
+ * the first grows, and the second is 0 again, when a name, a parameter, a code, a size or a promise changes. A kind of step that
+ * is answered 13 may be given a meaning as an addition. It is not the version in the head of a table. */
 #define LINEENGINE_VERSION_MAJOR 2
-#define LINEENGINE_VERSION_MINOR 0
+#define LINEENGINE_VERSION_MINOR 1
 
 /* The bytes of stack that are enough for any call. */
 #define LINEENGINE_STACK 65536
@@ -70,10 +70,11 @@ enum lineengine_code {
     /* A step is refused; only in `answers`. Nothing has changed. */
     LINEENGINE_NO_SUCH_STEP = 13,          /* no such kind, a box byte that is not 0 in kinds 3 to 6, or a last step cut short */
     LINEENGINE_NO_SUCH_TRAIN = 14,         /* the train byte is 0 or above the number of trains */
-    LINEENGINE_REQUEST_OPEN = 15,          /* the train's last request is not yet answered and heard */
+    LINEENGINE_REQUEST_OPEN = 15,          /* the train's last request or give-back is not yet answered and heard */
     LINEENGINE_ROUTE_ENDED = 16,           /* the route has no next segment */
     LINEENGINE_NOT_THE_BOX_TO_ASK = 17,    /* no end of the next segment; for a lock, not the point ahead */
     LINEENGINE_HELD_ALREADY = 18,          /* the train has that reservation or lock */
+    LINEENGINE_NOTHING_TO_GIVE_BACK = 29,  /* the train gives back a reservation or lock that it has not */
     LINEENGINE_HOLDING_MISSING = 19,       /* the train enters without a reservation or the lock that it needs */
     LINEENGINE_MOVE_OUT_OF_TURN = 20,      /* the train enters while it crosses a box, or clears while it crosses none */
     LINEENGINE_NO_MESSAGE = 21,            /* there is nothing to answer, or nothing to hear */

@@ -35,7 +35,7 @@ pub const START_SHARED: u8 = 12;
 pub const NO_SUCH_STEP: u8 = 13;
 /// The train byte is 0 or above the number of trains.
 pub const NO_SUCH_TRAIN: u8 = 14;
-/// The train's last request is not yet answered and heard.
+/// The train's last request or give-back is not yet answered and heard.
 pub const REQUEST_OPEN: u8 = 15;
 /// The route has no next segment.
 pub const ROUTE_ENDED: u8 = 16;
@@ -43,6 +43,8 @@ pub const ROUTE_ENDED: u8 = 16;
 pub const NOT_THE_BOX_TO_ASK: u8 = 17;
 /// The train has that reservation or lock.
 pub const HELD_ALREADY: u8 = 18;
+/// The train gives back a reservation or lock that it has not.
+pub const NOTHING_TO_GIVE_BACK: u8 = 29;
 /// The train enters without a reservation or the lock that it needs.
 pub const HOLDING_MISSING: u8 = 19;
 /// The train enters while it crosses a box, or clears while it crosses none.

@@ -37,9 +37,9 @@
 extern "C" {
 #endif
 
-/* The version of this interface. The second number grows when something is added and every program that was right stays right;
- * the first grows, and the second is 0 again, when a name, a parameter, a code, a size or a promise changes. A kind of step that
- * is answered 13 may be given a meaning as an addition. It is not the version in the head of a table. */
+/* The version of this interface. The second number grows when something is added and every program that was right stays right,
+ * but for steps of kinds that were answered 13: these may be given a meaning. The first grows, and the second is 0 again, when a
+ * name, a parameter, a code, a size or a promise changes. This is not the version in the head of a table. */
 #define LINEENGINE_VERSION_MAJOR 2
 #define LINEENGINE_VERSION_MINOR 1
 

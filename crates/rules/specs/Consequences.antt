@@ -36,7 +36,7 @@ pub record Consequences (t : Table) (steps : List Step) : Type 0 where
   -- The atomic line is the line as its trains believe it: its trains have recorded what theirs have, what a yes on its way will
   -- record, and what they are giving back until the box has answered.
   pub atomicLine : atomic t steps ≡ believed (reached t steps)
-  -- A box answers a give-back with 0, and so does the train hear it.
+  -- A box answers a give-back with 0, and 0 is what the train hears.
   pub answeredYes
       : (s : Step) (q : Request) → s .kind ≡ 3 → s .box ≡ 0 → TrainOf t (s .train)
       → trainAt (reached t steps) (s .train) .message ≡ Sent q → givesBack q ≡ true → step (reached t steps) s .code ≡ 0

@@ -131,8 +131,8 @@ pub data Open (q : Request) : Message → Type 0 where
   sent : Open q (Sent q)
   answered : {c : ℕ} → Open q (Answered q c)
 
--- What every step keeps. `unrecorded` and `fitting` are the safety conditions of 02, ticket 11 (code 40), whose form has `withNext`.
--- A reservation need not be explained by any train.
+-- What every step keeps. `unrecorded` and `fitting` are the safety conditions of 02, ticket 11 (code 40), whose form has `withNext`, but
+-- for what an answered give-back gave back (`returned`, Consequences). A reservation need not be explained by any train.
 pub record Invariant (l : Line) : Type 0 where
   -- The record has its 96 boxes and 16 trains, which in a program its type says.
   pub boxes : length (l .boxes) ≡ 96

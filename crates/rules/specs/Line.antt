@@ -20,7 +20,7 @@ use Rattle.rules.specs.Rows.{nth, setNth, listOf, filled}
 use Rattle.rules.specs.Track.{noSegment, noBoxPlan, noTrainPlan, routeAt, Track, trackOf, pointAt, farBox, nearBox}
 use Rattle.rules.specs.File.{fileCode, fileRefusal, decode}
 
--- 01's numbers for a request: the kind of step that makes it, and its box.
+-- The papers' numbers for a request: the kind of step that makes it, and its box.
 unfoldable pub requestKind : Request → ℕ
 requestKind (Reserve b) = 1
 requestKind (Lock b) = 2

@@ -25,7 +25,7 @@ refusalCases =
     -- 13: kinds 0, 9 and 255, and a box byte in each of the kinds 3 to 6, all before 14.
     answersTo tableS (stepOf 0 0 0 ∷ stepOf 9 1 0 ∷ stepOf 255 3 0 ∷ []) gives (13 ∷ 13 ∷ 13 ∷ [])
     ∷ answersTo tableS (stepOf 3 9 1 ∷ stepOf 4 1 1 ∷ stepOf 5 1 255 ∷ stepOf 6 1 1 ∷ []) gives (13 ∷ 13 ∷ 13 ∷ 13 ∷ [])
-    -- 14: trains 0, 3 and 255, in each kind.
+    -- 14: trains 0, 3 and 255, in each of the kinds 1 to 6.
     ∷ answersTo tableS (stepOf 1 0 2 ∷ stepOf 2 3 2 ∷ stepOf 3 3 0 ∷ stepOf 4 0 0 ∷ stepOf 5 3 0 ∷ stepOf 6 255 0 ∷ [])
     gives (replicate 6 14)
     -- 15 before 17: a message is open.
@@ -150,6 +150,15 @@ takenNumbers =
     ++ (0 ∷ 1 ∷ 1 ∷ 1 ∷ 1 ∷ 2 ∷ [])
     ++ (0 ∷ 0 ∷ 0 ∷ 1 ∷ 0 ∷ 0 ∷ [])
 
+-- The start of `shortRoute`.
+unfoldable pub shortNumbers : List ℕ
+shortNumbers =
+    (0 ∷ 1 ∷ 1 ∷ 1 ∷ replicate 7 0)
+    ++ replicate 6 0
+    ++ (0 ∷ 1 ∷ 0 ∷ 1 ∷ 0 ∷ 0 ∷ [])
+    ++ (0 ∷ 1 ∷ replicate 4 0)
+    ++ replicate 6 0
+
 unfoldable pub atomicCases : List Case
 atomicCases =
     atomicAnswersTo merging [] gives (0 ∷ mergingNumbers)
@@ -157,13 +166,7 @@ atomicCases =
     ∷ atomicAnswersTo merging (stepOf 1 1 2 ∷ stepOf 2 1 2 ∷ stepOf 2 1 3 ∷ stepOf 5 1 0 ∷ stepOf 6 1 0 ∷ stepOf 3 1 0 ∷ [])
     gives ((1 ∷ 17 ∷ 17 ∷ 25 ∷ 19 ∷ 20 ∷ 13 ∷ []) ++ mergingNumbers)
     -- 16: no next, for requests and for Enter.
-    ∷ atomicAnswersTo shortRoute (stepOf 1 1 2 ∷ stepOf 2 1 2 ∷ stepOf 5 1 0 ∷ [])
-    gives
-    ((1 ∷ 16 ∷ 16 ∷ 16 ∷ 0 ∷ 1 ∷ 1 ∷ 1 ∷ replicate 7 0)
-    ++ replicate 6 0
-    ++ (0 ∷ 1 ∷ 0 ∷ 1 ∷ 0 ∷ 0 ∷ [])
-    ++ (0 ∷ 1 ∷ replicate 4 0)
-    ++ replicate 6 0)
+    ∷ atomicAnswersTo shortRoute (stepOf 1 1 2 ∷ stepOf 2 1 2 ∷ stepOf 5 1 0 ∷ []) gives ((1 ∷ 16 ∷ 16 ∷ 16 ∷ []) ++ shortNumbers)
     -- Whole requests: the box grants and the train records at once. 18, 22 and 24 stop then.
     ∷ atomicAnswersTo merging taking gives (replicate 4 0 ++ takenNumbers)
     ∷ atomicAnswersTo merging
@@ -198,13 +201,14 @@ givingCases =
     ∷ answersTo opposed (asked 1 1 2 ++ (stepOf 7 1 2 ∷ []) ++ asked 1 2 2) gives (replicate 5 0 ++ (22 ∷ 22 ∷ []))
     ∷ answersTo opposed (asked 1 1 2 ++ asked 7 1 2 ++ asked 1 2 2) gives (replicate 9 0)
     ∷ boxAfter opposed (asked 1 1 2 ++ asked 7 1 2 ++ asked 1 2 2) 2 gives (0 ∷ 1 ∷ 0 ∷ 1 ∷ 2 ∷ 0 ∷ [])
-    -- A lock: the same, and its position and reservations stay. Its next may be given back before it.
+    -- A lock: the same, and position and reservations stay. Next may be given back before the lock.
     ∷ boxAfter merging (lockKept ++ (stepOf 8 1 3 ∷ [])) 3 gives (0 ∷ 1 ∷ 1 ∷ 0 ∷ 1 ∷ 2 ∷ [])
     ∷ boxAfter merging (lockKept ++ (stepOf 8 1 3 ∷ stepOf 3 1 0 ∷ [])) 3 gives (0 ∷ 1 ∷ 0 ∷ 0 ∷ 1 ∷ 2 ∷ [])
     ∷ answersTo merging (lockKept ++ (stepOf 8 1 3 ∷ []) ++ asked 1 2 3 ++ asked 2 2 3) gives (replicate 14 0 ++ (24 ∷ 24 ∷ []))
     ∷ answersTo merging (lockKept ++ asked 8 1 3 ++ asked 1 2 3 ++ asked 2 2 3) gives (replicate 18 0)
     ∷ boxAfter merging (lockKept ++ asked 8 1 3 ++ asked 1 2 3 ++ asked 2 2 3) 3 gives (0 ∷ 2 ∷ 2 ∷ 2 ∷ 1 ∷ 2 ∷ [])
     ∷ boxAfter tableS (ready ++ asked 8 1 2) 2 gives (0 ∷ 1 ∷ 0 ∷ 1 ∷ 1 ∷ 0 ∷ [])
+    ∷ boxAfter merging (asked 1 2 3 ++ asked 2 2 3 ++ asked 8 2 3) 3 gives (0 ∷ 2 ∷ 0 ∷ 2 ∷ 1 ∷ 2 ∷ [])
     -- 29: nothing recorded, at each end by itself, and after the give-back.
     ∷ answersTo tableS (stepOf 7 1 2 ∷ stepOf 7 1 3 ∷ stepOf 8 1 2 ∷ []) gives (29 ∷ 29 ∷ 29 ∷ [])
     ∷ answersTo tableS (asked 1 1 2 ++ (stepOf 7 1 3 ∷ [])) gives (0 ∷ 0 ∷ 0 ∷ 29 ∷ [])
@@ -217,7 +221,7 @@ givingCases =
     (asked 1 1 2
     ++ (stepOf 7 1 2 ∷ stepOf 1 1 2 ∷ stepOf 2 1 2 ∷ stepOf 7 1 2 ∷ stepOf 8 1 2 ∷ stepOf 3 1 0 ∷ stepOf 7 1 2 ∷ []))
     gives (0 ∷ 0 ∷ 0 ∷ 0 ∷ 15 ∷ 15 ∷ 15 ∷ 15 ∷ 0 ∷ 15 ∷ [])
-    ∷ answersTo tableS (stepOf 1 1 2 ∷ stepOf 7 1 2 ∷ stepOf 8 1 2 ∷ []) gives (0 ∷ 15 ∷ 15 ∷ [])
+    ∷ answersTo tableS (stepOf 1 1 2 ∷ stepOf 7 1 2 ∷ stepOf 8 1 2 ∷ stepOf 7 1 9 ∷ stepOf 8 1 9 ∷ []) gives (0 ∷ replicate 4 15)
     -- 16 before 17, and 17 before 29: no end of next; another box than the box ahead, and one that is no point.
     ∷ answersTo shortRoute (stepOf 7 1 9 ∷ stepOf 8 1 9 ∷ []) gives (16 ∷ 16 ∷ [])
     ∷ answersTo tableS (stepOf 7 1 4 ∷ stepOf 7 1 0 ∷ stepOf 8 1 3 ∷ stepOf 8 1 0 ∷ []) gives (17 ∷ 17 ∷ 17 ∷ 17 ∷ [])
@@ -232,16 +236,18 @@ givingCases =
     -- A train that crosses gives back what it has of its next; Clear may come between.
     ∷ answersTo tableS (crossing ++ asked 1 1 4 ++ (stepOf 7 1 4 ∷ stepOf 6 1 0 ∷ stepOf 3 1 0 ∷ stepOf 4 1 0 ∷ [])) gives (replicate 17 0)
     ∷ boxAfter tableS (crossing ++ asked 1 1 4 ++ (stepOf 7 1 4 ∷ stepOf 6 1 0 ∷ stepOf 3 1 0 ∷ [])) 4 gives (replicate 6 0)
-    -- The order has a give-back where the box answers it, and not before.
+    -- The order has a give-back where the box answers it, and not before, whatever is refused between.
     ∷ orderOf opposed (asked 1 1 2 ++ (stepOf 7 1 2 ∷ []) ++ asked 1 2 3) gives (0 ∷ 1 ∷ 1 ∷ 2 ∷ 1 ∷ 2 ∷ 3 ∷ [])
     ∷ orderOf opposed (asked 1 1 2 ++ (stepOf 7 1 2 ∷ []) ++ asked 1 2 3 ++ (stepOf 3 1 0 ∷ []))
     gives (0 ∷ 1 ∷ 1 ∷ 2 ∷ 1 ∷ 2 ∷ 3 ∷ 7 ∷ 1 ∷ 2 ∷ [])
+    ∷ orderOf tableS (asked 1 1 2 ++ (stepOf 7 1 2 ∷ stepOf 1 1 3 ∷ stepOf 3 1 0 ∷ [])) gives (0 ∷ 1 ∷ 1 ∷ 2 ∷ 7 ∷ 1 ∷ 2 ∷ [])
     ∷ orderOf merging (lockKept ++ asked 8 1 3) gives (0 ∷ 1 ∷ 1 ∷ 3 ∷ 2 ∷ 1 ∷ 3 ∷ 7 ∷ 1 ∷ 3 ∷ 8 ∷ 1 ∷ 3 ∷ [])
     ∷ atomicBoxAfter merging (lockKept ++ (stepOf 8 1 3 ∷ [])) 3 gives (0 ∷ 1 ∷ 1 ∷ 0 ∷ 1 ∷ 2 ∷ [])
     -- Atomic give-backs free and drop at once; 16, 17 and 29 stop them.
     ∷ atomicAnswersTo merging (taking ++ (stepOf 7 1 3 ∷ stepOf 8 1 3 ∷ stepOf 7 1 4 ∷ [])) gives (replicate 7 0 ++ mergingNumbers)
     ∷ atomicAnswersTo merging (stepOf 7 1 3 ∷ stepOf 8 1 3 ∷ stepOf 7 1 2 ∷ stepOf 8 1 2 ∷ [])
     gives ((1 ∷ 29 ∷ 29 ∷ 17 ∷ 17 ∷ []) ++ mergingNumbers)
+    ∷ atomicAnswersTo shortRoute (stepOf 7 1 2 ∷ stepOf 8 1 2 ∷ []) gives ((1 ∷ 16 ∷ 16 ∷ []) ++ shortNumbers)
     ∷ []
 
 -- The train and box lines of the short route.

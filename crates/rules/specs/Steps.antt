@@ -96,17 +96,17 @@ givesBack (Lock b) = false
 givesBack (GiveBack b) = true
 givesBack (Unlock b) = true
 
--- The box that it is held at.
+-- The box at which the train has the holding.
 unfoldable pub holdingBox : Holding → ℕ
 holdingBox (NextAt b) = b
 holdingBox (LockAt b) = b
 
--- A request about it may be made at its box. A reservation: at an end of next. A lock: at the box ahead, a point.
+-- A request about the holding may be made at its box. A reservation: at an end of next. A lock: at the box ahead, a point.
 unfoldable pub addressed : Around → Holding → Bool
 addressed v (NextAt b) = eqb b (v .nearEnd) || eqb b (v .farEnd)
 addressed v (LockAt b) = eqb b (v .ahead) && v .point
 
--- The train has recorded it.
+-- The train has recorded the holding.
 unfoldable pub recorded : Around → Train → Holding → Bool
 recorded v r (NextAt b) = (eqb b (v .nearEnd) && r .near) || (eqb b (v .farEnd) && r .far)
 recorded v r (LockAt b) = r .lock
@@ -150,7 +150,7 @@ grantRows v p x (LockAt b) =
     ∷ 25 if not (eqb (holderOf p x (v .front)) (v .number) && eqb (holderOf p x (v .next)) (v .number))
     ∷ []
 
--- Row Box, for the box of a request: what gives back is always answered yes.
+-- Row Box, for the box of a request: a give-back is always answered yes.
 unfoldable pub boxRows : Around → BoxPlan → SwitchBox → Request → List Row
 boxRows v p x q = cond (givesBack q) [] (grantRows v p x (holding q))
 
@@ -182,12 +182,13 @@ lockFreed x =
       right = x .right;
     }
 
--- The box has it for the train.
+-- The box has the holding for the train.
 unfoldable pub stands : Around → BoxPlan → SwitchBox → Holding → Bool
 stands v p x (NextAt b) = eqb (holderOf p x (v .next)) (v .number)
 stands v p x (LockAt b) = eqb (x .lock) (v .number)
 
--- The box once it is the train's, and once it is free. A reservation: the holder of next. A lock: with the position.
+-- The box once the train has the holding: the holder of next is set; the lock is given, with the position. And once it is free: next has
+-- no holder; the lock is nobody's, and the position stays.
 unfoldable pub given : Around → BoxPlan → SwitchBox → Holding → SwitchBox
 given v p x (NextAt b) = setHolder p x (v .next) (v .number)
 given v p x (LockAt b) = lockGiven v p x
@@ -201,7 +202,7 @@ unfoldable pub granted : Around → BoxPlan → SwitchBox → Request → Switch
 granted v p x q =
     cond (givesBack q) (cond (stands v p x (holding q)) (freed v p x (holding q)) x) (given v p x (holding q))
 
--- The train after it has recorded it, and after it has dropped the record.
+-- The train after it has recorded the holding, and after it has dropped the record.
 unfoldable pub withHolding : Around → Train → Holding → Train
 withHolding v r (NextAt b) = withRecords r (eqb b (v .nearEnd) || r .near) (eqb b (v .farEnd) || r .far) (r .lock)
 withHolding v r (LockAt b) = withRecords r (r .near) (r .far) true

@@ -30,7 +30,7 @@ use Rattle.rules.proofs.Tests.{facts, first-none, outside-false-iff}
 use Rattle.rules.proofs.Files.{file-iff}
 use Rattle.rules.proofs.Sound.{MessageSound, answering}
 use Rattle.rules.proofs.Steps.{step-taken}
-use Rattle.rules.proofs.StepKinds.{request-kind, Answers, Does, refuses, sends, denies, grants, hears, enters, clears, does}
+use Rattle.rules.proofs.StepKinds.{request-kind, Does, refuses, sends, denies, grants, hears, enters, clears, does, is-answer}
 use Rattle.rules.proofs.StepRows.{address-iff, lock-address-iff}
 use Rattle.rules.proofs.Holdings.{request-box}
 use Rattle.rules.proofs.Change.{Steady, ahead-uncrossed}
@@ -39,17 +39,8 @@ use Rattle.rules.proofs.SettledSteps.{addressed-open, enter-idle}
 use Rattle.rules.proofs.Keeps.{steady}
 use Rattle.rules.proofs.Moves.{other-trains, other-boxes}
 use Rattle.rules.proofs.Checked.{checked-line, checked-events}
+use Rattle.rules.proofs.Returned.{returned}
 use Rattle.rules.proofs.Demand3.{invariant-after, line-fixed, same-atomic}
-
--- Kind 3 gives 23 only as a box's answer.
-answers-23 : {l : Line} {s : Step} {o : Outcome} → Does l s o → s .kind ≡ 3 → o .code ≡ 23 → (q : Request) × Answers l s q 23
-answers-23 (refuses n other) kind code = absurd (other code)
-answers-23 (sends w) kind code = absurd (omega arith)
-answers-23 (denies {q} w n) kind code = (q, rw code at w)
-answers-23 (grants w) kind code = absurd (omega arith)
-answers-23 (hears w) kind code = absurd (omega (arith, w .kind))
-answers-23 (enters w) kind code = absurd (omega arith)
-answers-23 (clears w) kind code = absurd (omega arith)
 
 -- A box that answers 23 was asked for its lock, and its sensor is active.
 data Blocked (x : SwitchBox) : Holding → Type 0 where
@@ -96,9 +87,9 @@ lock-held : {l : Line} → Invariant l → (s : Step) → s .kind ≡ 3 → step
     → another (s .train) (boxAt l (messageBox (trainAt l (s .train) .message)) .lock) ≡ true
 unfolding messageBox holdingBox
 lock-held {l} h s kind code =
-    let (q, w) = answers-23 (does l s) kind code in
+    let (q, (w, _)) = is-answer (does l s) kind (λ _. code) in
     let (next, at) = address-iff _ _ _ .0 (addressed-open h (s .train) (w .train) q (rw (w .sent) sent)) in
-    rw (w .sent, request-box q) (go (holding q) (w .train) at (rw (request-box q) at (row-23 _ _ _ q (w .code))))
+    rw (w .sent, request-box q) (go (holding q) (w .train) at (rw (request-box q) at (row-23 _ _ _ q (w .code ∙ code))))
   where
     go : (z : Holding) → TrainOf (l .table) (s .train) → addressed (around l (s .train)) z ≡ true → Blocked (boxAt l (holdingBox z)) z
         → another (s .train) (boxAt l (holdingBox z) .lock) ≡ true
@@ -160,6 +151,7 @@ consequences bytes e steps =
       atomicLine = same-atomic (file-iff bytes .0 e .table) steps;
       answeredYes = λ s q kind box k. answered-yes (reached t steps) s q kind box (known (s .train) k);
       heardYes = λ i k. heard-yes h i (known i k);
+      returned = returned h;
       otherTrains = λ s. other-trains (does (reached t steps) s);
       otherBoxes = λ s. other-boxes (does (reached t steps) s);
     }

@@ -86,7 +86,7 @@ module _ (l : Line) (i : ℕ) (r : Train) (b : ℕ) (x : SwitchBox) where
   unfolding putTrain putBox trainAt
   train-other {j} n = nth-other (l .trains) i j r noTrain n
 
-  box-put : Sized l → BoxOf (l .table .m) b → boxAt (put l i r b x) b ≡ x
+  pub box-put : Sized l → BoxOf (l .table .m) b → boxAt (put l i r b x) b ≡ x
   unfolding putTrain putBox boxAt
   box-put h k = let room = h .boxes in nth-set (l .boxes) b x noBox (k .low) (omega arith)
 

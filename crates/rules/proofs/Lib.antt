@@ -66,6 +66,8 @@ pub mod Moves
 pub mod Demand3
 -- Calls that begin with the record check, where it finds nothing.
 pub mod Checked
+-- What a train has given back is not its own until it asks for it again.
+pub mod Returned
 -- What else holds after every list of steps.
 pub mod Consequences
 -- Steps in a list of bytes, their answers, and runs of a file and steps.

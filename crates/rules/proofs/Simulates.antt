@@ -121,7 +121,7 @@ module _ (a : Line) where
   atomic-clear s kind e = rw (kind, e)
 
 -- A message that is sent has one request, and is no other message.
-same-request : {q z : Request} → Sent q ≡ Sent z → q ≡ z
+pub same-request : {q z : Request} → Sent q ≡ Sent z → q ≡ z
 same-request e = cc
 
 pub not-idle : {q : Request} → Idle ≡ Sent q → ⊥

@@ -1,6 +1,6 @@
 -- What a step does to a line, one case a way of ending. Which rule a step falls under is decided here and nowhere after.
 use Prim.Native.Nat.{ℕ, zero, suc, _≤_}
-use mathlib.Core.Path.{_≡_, refl, _∙_}
+use mathlib.Core.Path.{_≡_, refl, sym, _∙_}
 use mathlib.Core.Logic.{_≢_, ⊎-elim}
 use mathlib.Core.Bool.{Bool, true, false, cond}
 use mathlib.Core.List.{List}
@@ -275,3 +275,14 @@ module _ (l : Line) (s : Step) where
       let number = outside-false-iff _ _ .0 inside in
       effect-ends (omega arith) (s .kind) refl form)
       .ends
+
+-- Kind 3 with code 0 or 23 is a box's answer; with code 0 the request is granted.
+pub is-answer : {l : Line} {s : Step} {o : Outcome} → Does l s o → s .kind ≡ 3 → (o .code ≢ 0 → o .code ≡ 23)
+    → (q : Request) × (Answers l s q (o .code) × (o .code ≡ 0 → o .line ≡ afterGrant l (s .train) q))
+is-answer (refuses n other) kind code = absurd (other (code n))
+is-answer (sends {q} w) kind code = absurd (request-kind q 3 (omega arith) (omega arith) (sym (w .kind) ∙ kind))
+is-answer (denies {q} w n) kind code = (q, (w, λ e. absurd (n e)))
+is-answer (grants {q} w) kind code = (q, (w, λ _. refl))
+is-answer (hears w) kind code = absurd (omega (arith, w .kind))
+is-answer (enters w) kind code = absurd (omega (arith, w .kind))
+is-answer (clears w) kind code = absurd (omega (arith, w .kind))

@@ -20,6 +20,19 @@ use Rattle.rules.specs.History.{Event, lineAfter, events, accepted}
 use Rattle.rules.specs.Safety.{TrainOf, reached, history, atomic}
 use Rattle.rules.specs.Invariant.{believed, Invariant}
 
+-- Holding z is train i's at its box.
+unfoldable pub heldFor : Line → ℕ → Holding → Bool
+heldFor l i z = stands (around l i) (planAt (l .table) (holdingBox z)) (boxAt l (holdingBox z)) z
+
+-- The event is train i's accepted request for holding z; and some event of a list is.
+unfoldable pub asksFor : ℕ → Holding → Event → Bool
+asksFor i (NextAt b) e = accepted 1 i e && eqb (e .step .box) b
+asksFor i (LockAt b) e = accepted 2 i e && eqb (e .step .box) b
+
+unfoldable pub someAsksFor : ℕ → Holding → List Event → Bool
+someAsksFor i z [] = false
+someAsksFor i z (e ∷ rest) = asksFor i z e || someAsksFor i z rest
+
 pub record Consequences (t : Table) (steps : List Step) : Type 0 where
   -- The invariant holds. So the record check finds nothing, and calls that begin with it give the same line and the same answers.
   pub invariant : Invariant (reached t steps)
@@ -42,6 +55,12 @@ pub record Consequences (t : Table) (steps : List Step) : Type 0 where
       → trainAt (reached t steps) (s .train) .message ≡ Sent q → givesBack q ≡ true → step (reached t steps) s .code ≡ 0
   pub heardYes
       : (i : ℕ) → TrainOf t i → (q : Request) (c : ℕ) → trainAt (reached t steps) i .message ≡ Answered q c → givesBack q ≡ true → c ≡ 0
+  -- What is given back and answered is not the train's at that box, until it asks for it again.
+  pub returned
+      : (s : Step) (q : Request) → s .kind ≡ 3 → step (reached t steps) s .code ≡ 0
+      → trainAt (reached t steps) (s .train) .message ≡ Sent q → givesBack q ≡ true → (more : List Step)
+      → someAsksFor (s .train) (holding q) (events step (step (reached t steps) s .line) more) ≡ false
+      → heldFor (lineAfter step (step (reached t steps) s .line) more) (s .train) (holding q) ≡ false
   -- A step changes no other train, and at most one box.
   pub otherTrains
       : (s : Step) (j : ℕ) → j ≢ s .train → trainAt (step (reached t steps) s .line) j ≡ trainAt (reached t steps) j

@@ -16,21 +16,21 @@ use Rattle.rules.specs.declared.Around.{Around}
 use Rattle.rules.specs.Rows.{first}
 use Rattle.rules.specs.Track.{planAt}
 use Rattle.rules.specs.Line.{aroundOn, aroundTrain, around, boxAt, trainAt, putTrain, requestBox}
-use Rattle.rules.specs.Steps.{Step, holding, givesBack, recorded, requestRows, withMessage, withHolding, withoutHolding, granted, asking, heard}
+use Rattle.rules.specs.Steps.{Step, holding, givesBack, recorded, requestRows, withMessage, withHolding, withoutHolding, granted, sending, heard}
 use Rattle.rules.specs.Safety.{TrainOf}
 use Rattle.rules.specs.Invariant.{settledBy, settledTrain, settled, believedBy, believedTrain, believed, sent, Open, Invariant}
 use Rattle.rules.proofs.Frames.{put}
 use Rattle.rules.proofs.StepKinds.{afterSending, afterRequest, afterGrant, Sends, Answers}
 use Rattle.rules.proofs.StepRows.{address-iff, request-iff}
 use Rattle.rules.proofs.Holdings.{recorded-dropped, dropped-recorded, recorded-now, dropped-now}
-use Rattle.rules.proofs.Settled.{line-sound, around-alike, message-alike, holding-alike, holding-message, asking-alike, settling, believing, table-quiet, train-quiet, around-quiet, box-quiet, train-put-quiet, same-quiet}
+use Rattle.rules.proofs.Settled.{line-sound, around-alike, message-alike, holding-alike, holding-message, sending-alike, settling, believing, table-quiet, train-quiet, around-quiet, box-quiet, train-put-quiet, same-quiet}
 use Rattle.rules.proofs.SettledSteps.{addressed-open, request-free, message-gone, message-recorded, message-now, grant-line}
 
 -- A train that has sent a request has not recorded what it is about. One that has sent a give-back, once its message is taken away.
-pub asking-unrecorded : (v : Around) (r : Train) (q : Request) → recorded v r (holding q) ≡ givesBack q
-    → recorded v (asking v r q) (holding q) ≡ false
-unfolding asking
-asking-unrecorded v r q known = message-recorded v _ (Sent q) (holding q) ∙ by (givesBack q) known
+pub sending-unrecorded : (v : Around) (r : Train) (q : Request) → recorded v r (holding q) ≡ givesBack q
+    → recorded v (sending v r q) (holding q) ≡ false
+unfolding sending
+sending-unrecorded v r q known = message-recorded v _ (Sent q) (holding q) ∙ by (givesBack q) known
   where
     by : (b : Bool) → recorded v r (holding q) ≡ b → recorded v (cond b (withoutHolding v r (holding q)) r) (holding q) ≡ false
     by true e = dropped-now v r (holding q)
@@ -41,14 +41,14 @@ unfolding withoutHolding
 without-message v r (NextAt b) = refl
 without-message v r (LockAt b) = refl
 
-pub asking-message : (v : Around) (r : Train) (q : Request) → asking v r q .message ≡ Sent q
-unfolding asking withMessage
-asking-message v r q = refl
+pub sending-message : (v : Around) (r : Train) (q : Request) → sending v r q .message ≡ Sent q
+unfolding sending withMessage
+sending-message v r q = refl
 
-asking-gone : (v : Around) (r : Train) (q : Request) → givesBack q ≡ true → r .message ≡ Idle
-    → withMessage (asking v r q) Idle ≡ withoutHolding v r (holding q)
-unfolding asking withMessage
-asking-gone v r q gives idle = rw gives (message-gone (withoutHolding v r (holding q)) (without-message v r (holding q) ∙ idle))
+sending-gone : (v : Around) (r : Train) (q : Request) → givesBack q ≡ true → r .message ≡ Idle
+    → withMessage (sending v r q) Idle ≡ withoutHolding v r (holding q)
+unfolding sending withMessage
+sending-gone v r q gives idle = rw gives (message-gone (withoutHolding v r (holding q)) (without-message v r (holding q) ∙ idle))
 
 pub settled-sent : (v : Around) (r : Train) (q : Request) → r .message ≡ Sent q → settledTrain v r ≡ withMessage r Idle
 unfolding settledTrain settledBy
@@ -77,9 +77,9 @@ module _ {l : Line} {s : Step} {q : Request} (gives : givesBack q ≡ true) wher
       let i = s .train in
       let r = trainAt l i in
       let idle = request-iff _ _ q .0 (w .free) .0 in
-      let gone = settled-sent (aroundTrain (l .table) (l .routes) i (asking (around l i) r q)) (asking (around l i) r q) q (asking-message _ r q) in
-      train-put-quiet settling l i (asking (around l i) r q)
-      ∙ rw (gone, asking-gone (around l i) r q gives idle, around-quiet settling l i, train-quiet settling, settling .idle _ r idle)
+      let gone = settled-sent (aroundTrain (l .table) (l .routes) i (sending (around l i) r q)) (sending (around l i) r q) q (sending-message _ r q) in
+      train-put-quiet settling l i (sending (around l i) r q)
+      ∙ rw (gone, sending-gone (around l i) r q gives idle, around-quiet settling l i, train-quiet settling, settling .idle _ r idle)
 
   pub grant-settled : Answers l s q 0
       → settled (afterGrant l (s .train) q)
@@ -99,8 +99,8 @@ module _ {l : Line} {s : Step} {q : Request} (gives : givesBack q ≡ true) wher
         let r = trainAt l i in
         let (idle, (address, known)) = request-iff (around l i) r q .0 (w .free) in
         same-quiet believing l i _
-        (believed-sent _ _ q gives (asking-message (around l i) r q)
-        ∙ rw (around-alike _ _ i (asking-alike (around l i) r q), asking-gone (around l i) r q gives idle)
+        (believed-sent _ _ q gives (sending-message (around l i) r q)
+        ∙ rw (around-alike _ _ i (sending-alike (around l i) r q), sending-gone (around l i) r q gives idle)
         (dropped-recorded (around l i) r (holding q) (ends-differ h (w .train) (address-iff _ r q .0 address .0)) (known ∙ gives)
         ∙ sym (believing .idle _ r idle)))
 

@@ -18,7 +18,7 @@ use Rattle.rules.specs.Rows.{first}
 use Rattle.rules.specs.Track.{planAt}
 use Rattle.rules.specs.declared.Around.{Around}
 use Rattle.rules.specs.Line.{aroundOn, aroundTrain, around, trainAt, putTrain, putBox, requestBox}
-use Rattle.rules.specs.Steps.{Step, holding, givesBack, withMessage, recorded, addressRows, asking, entered, cleared}
+use Rattle.rules.specs.Steps.{Step, holding, givesBack, withMessage, recorded, addressRows, sending, entered, cleared}
 use Rattle.rules.specs.Record.{answerCode}
 use Rattle.rules.specs.Safety.{TrainOf}
 use Rattle.rules.specs.Invariant.{withTrains, settled, Fitting, Open, sent, answered, Invariant}
@@ -29,9 +29,9 @@ use Rattle.rules.proofs.Sound.{Placed, BoxSound, MessageSound, silent, 
 use Rattle.rules.proofs.SoundBoxes.{answer-code, granted-sound, sensed-sound, released-sound}
 use Rattle.rules.proofs.StepKinds.{afterSending, afterMessage, afterGrant, afterHearing, afterEnter, afterClear, Sends, Answers, Hears, Enters, Clears, Does, refuses, sends, denies, grants, hears, enters, clears}
 use Rattle.rules.proofs.StepRows.{showing, address-same, recorded-same, not-open, request-iff, enter-iff, clear-iff}
-use Rattle.rules.proofs.Settled.{line-sound, sized, Alike, around-alike, address-alike, message-alike, asking-alike, heard-alike, heard-message, settling, table-quiet, train-quiet, alike-quiet, around-quiet}
+use Rattle.rules.proofs.Settled.{line-sound, sized, Alike, around-alike, address-alike, message-alike, sending-alike, heard-alike, heard-message, settling, table-quiet, train-quiet, alike-quiet, around-quiet}
 use Rattle.rules.proofs.SettledSteps.{addressed-open, enter-idle, message-recorded, send-quiet, deny-quiet, hear-quiet, grant-quiet, grant-answers, clear-quiet, clear-free, grant-asks, enter-quiet, enter-free}
-use Rattle.rules.proofs.GivingSteps.{asking-unrecorded, asking-message, settled-sent, send-settled, grant-settled}
+use Rattle.rules.proofs.GivingSteps.{sending-unrecorded, sending-message, settled-sent, send-settled, grant-settled}
 use Rattle.rules.proofs.Change.{Steady, ahead-box, passed-box}
 use Rattle.rules.proofs.Requesting.{request-box, request-fits}
 use Rattle.rules.proofs.Giving.{drop-fits, give-fits}
@@ -154,23 +154,23 @@ module _ {l : Line} (h : Invariant l) (s : Step) where
       m n
 
   -- A request that is sent may be made, and what it is about is not recorded any more.
-  own-asking : {q : Request} → Sends l s q → Own (l .table) (l .routes) i (asking v r q)
+  own-sending : {q : Request} → Sends l s q → Own (l .table) (l .routes) i (sending v r q)
   unfolding around
-  own-asking {q} w =
+  own-sending {q} w =
       let (closed, (address, known)) = request-iff v r q .0 (w .free) in
-      let alike = asking-alike v r q in
+      let alike = sending-alike v r q in
       record {
         placed = placed-alike _ _ i alike (line-sound h .trains i (w .train));
-        message = sent-sound _ (asking-message v r q) (address-alike _ _ i alike q address);
-        unrecorded = λ z o. rw (around-alike _ _ i alike) (only z (rw (asking-message v r q) at o) (asking-unrecorded v r q known));
+        message = sent-sound _ (sending-message v r q) (address-alike _ _ i alike q address);
+        unrecorded = λ z o. rw (around-alike _ _ i alike) (only z (rw (sending-message v r q) at o) (sending-unrecorded v r q known));
       }
     where
-      only : (z : Request) → Open z (Sent q) → recorded v (asking v r q) (holding q) ≡ false
-          → recorded v (asking v r q) (holding z) ≡ false
+      only : (z : Request) → Open z (Sent q) → recorded v (sending v r q) (holding q) ≡ false
+          → recorded v (sending v r q) (holding z) ≡ false
       only z sent e = e
 
   sends-keeps : {q : Request} → Sends l s q → Invariant (afterSending l i q)
-  sends-keeps {q} w = train-keeps h (w .train) (own-asking w) (by (givesBack q) refl)
+  sends-keeps {q} w = train-keeps h (w .train) (own-sending w) (by (givesBack q) refl)
     where
       by : (b : Bool) → givesBack q ≡ b → Fitting (settled (afterSending l i q))
       by true gives = rw (send-settled gives w) (drop-fits (steady h) (rw (table-quiet settling) (w .train)) (holding q))

@@ -23,7 +23,7 @@ use Rattle.rules.specs.Safety.{TrainOf, Fixed, placeIn, placeOf}
 use Rattle.rules.proofs.Tests.{facts, not-passed, first-zero-iff}
 use Rattle.rules.proofs.Frames.{put, Sized, table-put, routes-put, train-put, train-other, box-other, every-train, every-box, train-back, train-alone}
 use Rattle.rules.proofs.StepRows.{granted-each}
-use Rattle.rules.proofs.Settled.{Alike, message-alike, asking-alike, heard-alike}
+use Rattle.rules.proofs.Settled.{Alike, message-alike, sending-alike, heard-alike}
 use Rattle.rules.proofs.StepKinds.{request-kind, Does, refuses, sends, denies, grants, hears, enters, clears}
 
 -- An event is an accepted step of this kind of train i.
@@ -130,7 +130,7 @@ put-back l s o (refuses n other) =
       still = unmoved refl;
     }
 put-back l s o (sends {q} h) =
-    alone l s 0 _ (runs-alike (asking-alike _ _ q) _ _ (λ low high _ _. request-kind q (s .kind) (omega arith) high (sym (h .kind))))
+    alone l s 0 _ (runs-alike (sending-alike _ _ q) _ _ (λ low high _ _. request-kind q (s .kind) (omega arith) high (sym (h .kind))))
 put-back l s o (denies h n) = alone l s _ _ (runs-alike (message-alike _ _) _ _ (λ _ _ _ a. n a))
 put-back l s o (grants {q} h) =
     both l s 0 _ _ _ (runs-alike (message-alike _ _) _ _ (λ a _ _ _. omega (arith, h .kind))) (granted-still _ _ _ q (h .code))

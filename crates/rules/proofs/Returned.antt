@@ -23,7 +23,7 @@ use Rattle.rules.specs.declared.Around.{Around}
 use Rattle.rules.specs.Rows.{first}
 use Rattle.rules.specs.Track.{planAt}
 use Rattle.rules.specs.Line.{requestKind, requestBox, aroundOn, aroundTrain, around, boxAt, trainAt, putTrain, putBox, holderOf, setHolder}
-use Rattle.rules.specs.Steps.{Step, holding, givesBack, holdingBox, addressed, enterRows, stands, given, freed, granted, asking, withMessage, sensed, cleared, released, step}
+use Rattle.rules.specs.Steps.{Step, holding, givesBack, holdingBox, addressed, enterRows, stands, given, freed, granted, sending, withMessage, sensed, cleared, released, step}
 use Rattle.rules.specs.History.{_answered_, accepted, lineAfter, events}
 use Rattle.rules.specs.Safety.{TrainOf}
 use Rattle.rules.specs.Invariant.{nearRecorded, farRecorded, lockRecorded, sent, Invariant}
@@ -34,7 +34,7 @@ use Rattle.rules.proofs.StepKinds.{afterGrant, Answers, Enters, Does, r
 use Rattle.rules.proofs.StepRows.{address-iff, lock-address-iff, granted-each, enter-iff}
 use Rattle.rules.proofs.Holdings.{request-box}
 use Rattle.rules.proofs.Change.{Steady, fits}
-use Rattle.rules.proofs.Settled.{line-sound, sized, Alike, message-alike, asking-alike, heard-alike, heard-message, settling, table-quiet, around-quiet, box-quiet}
+use Rattle.rules.proofs.Settled.{line-sound, sized, Alike, message-alike, sending-alike, heard-alike, heard-message, settling, table-quiet, around-quiet, box-quiet}
 use Rattle.rules.proofs.SettledSteps.{addressed-open, enter-free}
 use Rattle.rules.proofs.Requesting.{request-box as box-asked}
 use Rattle.rules.proofs.Simulates.{same-request}
@@ -205,10 +205,10 @@ module _ {l : Line} (h : Invariant l) {i : ℕ} {z : Holding} (g : Gone l i z) (
   alone r this = rw (train-alone l (s .train) r 0) at (both r 0 (boxAt l 0) this (free 0))
 
   keeps-gone : (o : Outcome) → Does l s o → asksFor i z (s answered o .code) ≡ false → Gone (o .line) i z
-  unfolding Returns asking withMessage cleared around aroundOn
+  unfolding Returns sending withMessage cleared around aroundOn
   keeps-gone o (refuses n other) none = g
   keeps-gone o (sends {q} w) none =
-      alone _ λ e. alike-stays (asking-alike _ _ q) (λ about. unasked s i q (w .kind) e (w .box) (rw about none))
+      alone _ λ e. alike-stays (sending-alike _ _ q) (λ about. unasked s i q (w .kind) e (w .box) (rw about none))
   keeps-gone o (denies w n) none = alone _ λ _. alike-stays (message-alike _ _) tt
   keeps-gone o (grants {q} w) none =
       both _ _ _ (λ _. alike-stays (message-alike _ _) tt)

@@ -22,7 +22,7 @@ use Rattle.rules.specs.declared.Line.{Line}
 use Rattle.rules.specs.Rows.{first, nth, setNth, listOf}
 use Rattle.rules.specs.declared.Around.{Around}
 use Rattle.rules.specs.Line.{noTrain, aroundOn, aroundTrain, around, boxAt, trainAt, putTrain, putBox}
-use Rattle.rules.specs.Steps.{holding, givesBack, atEnd, addressRows, withMessage, withHolding, withoutHolding, asking, heard, cleared}
+use Rattle.rules.specs.Steps.{holding, givesBack, atEnd, addressRows, withMessage, withHolding, withoutHolding, sending, heard, cleared}
 use Rattle.rules.specs.Invariant.{settledBy, settledTrain, believedBy, believedTrain, withTrains, Invariant}
 use Rattle.rules.proofs.Tests.{cond-each}
 use Rattle.rules.proofs.Rows.{list-length, list-at, list-same, list-all}
@@ -111,9 +111,9 @@ unfolding withHolding
 holding-message v r (NextAt b) = refl
 holding-message v r (LockAt b) = refl
 
-pub asking-alike : (v : Around) (r : Train) (q : Request) → Alike (asking v r q) r
-unfolding asking withMessage
-asking-alike v r q = by (givesBack q)
+pub sending-alike : (v : Around) (r : Train) (q : Request) → Alike (sending v r q) r
+unfolding sending withMessage
+sending-alike v r q = by (givesBack q)
   where
     by : (b : Bool) → Alike (withMessage (cond b (withoutHolding v r (holding q)) r) (Sent q)) r
     by true = let h = without-alike v r (holding q) in record { direction = h .direction; length = h .length; place = h .place; covered = h .covered }

@@ -18,7 +18,7 @@ use Rattle.rules.specs.Rows.{first}
 use Rattle.rules.specs.Track.{planAt}
 use Rattle.rules.specs.declared.Around.{Around}
 use Rattle.rules.specs.Line.{aroundOn, aroundTrain, around, boxAt, trainAt, requestBox}
-use Rattle.rules.specs.Steps.{Step, holding, givesBack, addressed, recorded, atEnd, addressRows, requestRows, boxRows, enterRows, clearRows, withMessage, withHolding, granted, asking, heard, entered, cleared}
+use Rattle.rules.specs.Steps.{Step, holding, givesBack, addressed, recorded, atEnd, addressRows, requestRows, boxRows, enterRows, clearRows, withMessage, withHolding, granted, sending, heard, entered, cleared}
 use Rattle.rules.specs.Safety.{TrainOf}
 use Rattle.rules.specs.Invariant.{withTrains, Open, sent, answered, Invariant}
 use Rattle.rules.proofs.Tests.{not-passed, or-left, and-true, first-none}
@@ -118,7 +118,7 @@ module _ {f : Around → Train → Train} (k : Quiets f) where
 module _ {f : Around → Train → Train} (k : Quiets f) {l : Line} {s : Step} where
   -- A request sent, denied and heard leave the line as it is.
   pub send-quiet : {q : Request} → Sends l s q → givesBack q ≡ false → withTrains f (afterSending l (s .train) q) ≡ withTrains f l
-  unfolding asking withMessage
+  unfolding sending withMessage
   send-quiet {q} w n =
       let r = trainAt l (s .train) in
       let idle = request-iff _ _ q .0 (w .free) .0 in

@@ -18,7 +18,7 @@ use Rattle.rules.specs.declared.Outcome.{Outcome}
 use Rattle.rules.specs.Rows.{first}
 use Rattle.rules.specs.Track.{planAt}
 use Rattle.rules.specs.Line.{around, boxAt, trainAt, putTrain, putBox, requestKind, requestBox}
-use Rattle.rules.specs.Steps.{Step, givesBack, apply, unless, asking, requestRows, boxRows, enterRows, clearRows, withMessage, entered, cleared, enter, clear, concernedBox}
+use Rattle.rules.specs.Steps.{Step, givesBack, apply, unless, sending, requestRows, boxRows, enterRows, clearRows, withMessage, entered, cleared, enter, clear, concernedBox}
 use Rattle.rules.specs.History.{_answered_, lineAfter, events}
 use Rattle.rules.specs.Atomic.{Kept, isRequest, keep, added, atomicRequest, atomicStep, stopped}
 use Rattle.rules.specs.Safety.{TrainOf}
@@ -201,7 +201,7 @@ module _ (l : Line) (h : Invariant l) (kept : Kept) (m : Remembers kept l) (s : 
       by false asks = grant-asks believing h w asks
 
   pub simulates : (o : Outcome) → Does l s o → Simulates kept l s o
-  unfolding withMessage asking entered cleared
+  unfolding withMessage sending entered cleared
   simulates o (refuses {c} n other) =
       quiet
       (record { request = λ i k q e. keep-refused kept s c n i ∙ m .request i k q e })

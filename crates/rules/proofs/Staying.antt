@@ -15,7 +15,7 @@ use Rattle.rules.specs.declared.Effect.{Effect}
 use Rattle.rules.specs.declared.Effect.the-variants.{Refused, Changed}
 use Rattle.rules.specs.Rows.{first}
 use Rattle.rules.specs.Steps.{requestRows, unless, send, reply, boxAnswers, trainHears, alone}
-use Rattle.rules.proofs.Settled.{Alike, message-alike, asking-alike, heard-alike}
+use Rattle.rules.proofs.Settled.{Alike, message-alike, sending-alike, heard-alike}
 
 -- The train after an effect stands as train r does.
 pub data Stays (r : Train) : Effect → Type 0 where
@@ -29,7 +29,7 @@ module _ (v : Around) (r : Train) (x : SwitchBox) where
 
   send-stays : (q : Request) → Stays r (send v r x q)
   unfolding send unless
-  send-stays q = either (eqb (first (requestRows v r q)) 0) (changed (asking-alike v r q)) refused
+  send-stays q = either (eqb (first (requestRows v r q)) 0) (changed (sending-alike v r q)) refused
 
   hear-stays : (g : Message) → Stays r (trainHears v r x g)
   unfolding trainHears

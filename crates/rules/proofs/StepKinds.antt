@@ -22,7 +22,7 @@ use Rattle.rules.specs.Rows.{Row, first}
 use Rattle.rules.specs.Track.{planAt}
 use Rattle.rules.specs.declared.Around.{Around}
 use Rattle.rules.specs.Line.{around, boxAt, trainAt, putTrain, requestKind, requestBox, messageBox}
-use Rattle.rules.specs.Steps.{Step, holding, givesBack, addressRows, recordRows, apply, unless, asking, send, reply, boxAnswers, trainHears, enter, clear, formed, formRows, stepRows, concernedBox, alone, effect, step, requestRows, boxRows, enterRows, clearRows, withMessage, withHolding, withoutHolding, granted, heard, entered, sensed, cleared, released}
+use Rattle.rules.specs.Steps.{Step, holding, givesBack, addressRows, recordRows, apply, unless, sending, send, reply, boxAnswers, trainHears, enter, clear, formed, formRows, stepRows, concernedBox, alone, effect, step, requestRows, boxRows, enterRows, clearRows, withMessage, withHolding, withoutHolding, granted, heard, entered, sensed, cleared, released}
 use Rattle.rules.specs.Safety.{TrainOf}
 use Rattle.rules.proofs.Tests.{cond-each, EachCode, each-code, outside-false-iff}
 use Rattle.rules.proofs.Steps.{formed-iff, step-row-iff}
@@ -69,7 +69,7 @@ pub record Clears (l : Line) (s : Step) : Type 0 where
 -- The line after train i has sent request q, after its message has become g, after its request q is granted, after it has heard code
 -- c in answer to q, after it has entered its next segment, and after it has cleared its tail.
 abbrev pub afterSending : Line → ℕ → Request → Line
-afterSending l i q = putTrain l i (asking (around l i) (trainAt l i) q)
+afterSending l i q = putTrain l i (sending (around l i) (trainAt l i) q)
 
 abbrev pub afterMessage : Line → ℕ → Message → Line
 afterMessage l i g = putTrain l i (withMessage (trainAt l i) g)

@@ -257,11 +257,11 @@ unless c e = cond (eqb c 0) e (Refused c)
 -- The kinds of steps, each by the train's record r, what stands around it, v, and the plan p and the record x of the box that the
 -- step concerns. Kinds 1, 2, 4, 7 and 8 concern none, and hand x through. Kinds 1, 2, 7 and 8: the message is sent, and what is given
 -- back is no longer recorded.
-unfoldable pub asking : Around → Train → Request → Train
-asking v r q = withMessage (cond (givesBack q) (withoutHolding v r (holding q)) r) (Sent q)
+unfoldable pub sending : Around → Train → Request → Train
+sending v r q = withMessage (cond (givesBack q) (withoutHolding v r (holding q)) r) (Sent q)
 
 unfoldable pub send : Around → Train → SwitchBox → Request → Effect
-send v r x q = unless (first (requestRows v r q)) (Changed 0 (asking v r q) x)
+send v r x q = unless (first (requestRows v r q)) (Changed 0 (sending v r q) x)
 
 -- Kind 3: the box answers a message that is sent. A no leaves the box as it was.
 unfoldable pub reply : Around → Train → BoxPlan → SwitchBox → Request → Effect

@@ -175,7 +175,8 @@ fn train_after(mut r: Train, kind: u8, field: u8, value: u8) -> Train {
     r
 }
 
-// None; a reservation or a lock of box `value`, sent; the same, answered yes; or the answer's code.
+// None; a reservation or a lock of box `value`, sent; the same, answered yes; the answer's code; a reservation or a lock given back to
+// box `value`, sent; or the same, answered yes.
 fn message_after(old: Message, field: u8, value: u8) -> Message {
     match field {
         0 => Message::Idle,
@@ -187,6 +188,10 @@ fn message_after(old: Message, field: u8, value: u8) -> Message {
             Message::Answered(q, _) => Message::Answered(q, value),
             _ => old,
         },
+        6 => Message::Sent(Request::GiveBack(value)),
+        7 => Message::Sent(Request::Unlock(value)),
+        8 => Message::Answered(Request::GiveBack(value), 0),
+        9 => Message::Answered(Request::Unlock(value), 0),
         _ => old,
     }
 }

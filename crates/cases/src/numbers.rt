@@ -80,6 +80,8 @@ fn put_request(state: u8, q: Request, code: u8) {
     match q {
         Request::Reserve(number) => put_numbers(state, 1, number, code),
         Request::Lock(number) => put_numbers(state, 2, number, code),
+        Request::GiveBack(number) => put_numbers(state, 7, number, code),
+        Request::Unlock(number) => put_numbers(state, 8, number, code),
     }
 }
 

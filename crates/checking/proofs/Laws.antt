@@ -9,7 +9,7 @@ use borrow.Author.Tests.{ne-eqb, le-ltb}
 use lib.Dec.{eqb, ltb}
 use lib.ListN.{length, getD}
 use Rattle.rules.specs.declared.Request.{Request}
-use Rattle.rules.specs.declared.Request.the-variants.{Reserve, Lock}
+use Rattle.rules.specs.declared.Request.the-variants.{Reserve, Lock, GiveBack, Unlock}
 use Rattle.rules.specs.declared.Message.{Message}
 use Rattle.rules.specs.declared.Message.the-variants.{Idle, Sent, Answered}
 use Rattle.rules.specs.declared.BoxPlan.{BoxPlan}
@@ -52,6 +52,8 @@ pub answer-zero : (q : Request) (c : ℕ) → c ≡ 0 → true ≡ answerCode q 
 unfolding answerCode
 answer-zero (Reserve b) c e = search tests
 answer-zero (Lock b) c e = search tests
+answer-zero (GiveBack b) c e = search tests
+answer-zero (Unlock b) c e = search tests
 
 module _ (q : Request) (b c : ℕ) (z : Bool) where
   pub answer-reserved : q ≡ Reserve b → (c ≡ 0 → ⊥) → z ≡ eqb c 22 → z ≡ answerCode q c

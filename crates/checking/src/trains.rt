@@ -26,6 +26,8 @@ fn answer_code(q: Request, code: u8) -> bool
             }
             code == 25
         }
+        Request::GiveBack(_) => false,
+        Request::Unlock(_) => false,
     }
 }
 

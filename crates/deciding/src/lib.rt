@@ -16,12 +16,12 @@ ghost use Rattle.rules.specs.Track.{noBoxPlan};
 ghost use Rattle.rules.specs.Line.{noBox};
 ghost use Rattle.rules.specs.Steps.{formRows, concernedBox, alone, effect};
 
-// Code 13: kinds 1 and 2 have a box byte, kinds 3 to 6 have none, and there is no other kind.
+// Code 13: kinds 1, 2, 7 and 8 have a box byte, kinds 3 to 6 have none, and there is no other kind.
 pub fn form_code(kind: u8, at: u8) -> u8
     ensures { λ c. ⌜ c ≡ first (formRows kind at) ⌝ }
 {
     match kind {
-        1..=2 => 0,
+        1..=2 | 7..=8 => 0,
         3..=6 => {
             if at != 0 {
                 return 13;
@@ -45,7 +45,7 @@ pub fn concerned(kind: u8, v: Around, r: Train) -> u8
     }
 }
 
-// The kinds that are the train's alone, 1, 2 and 4; there is no other. The box is handed through.
+// The kinds that are the train's alone, 1, 2, 4, 7 and 8; there is no other. The box is handed through.
 pub fn alone(kind: u8, at: u8, v: Around, r: Train, x: SwitchBox) -> Effect
     ensures { λ d. ⌜ d ≡ alone kind at v r x ⌝ }
 {
@@ -53,6 +53,8 @@ pub fn alone(kind: u8, at: u8, v: Around, r: Train, x: SwitchBox) -> Effect
         1 => requests::send(v, r, x, Request::Reserve(at)),
         2 => requests::send(v, r, x, Request::Lock(at)),
         4 => requests::hear(v, r, x),
+        7 => requests::send(v, r, x, Request::GiveBack(at)),
+        8 => requests::send(v, r, x, Request::Unlock(at)),
         _ => Effect::Refused(13),
     }
 }

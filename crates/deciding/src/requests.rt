@@ -1,4 +1,4 @@
-// Kinds 1 to 4: requests, the box's answer, and hearing it.
+// Kinds 1, 2, 7 and 8: requests, give-backs among them. Kinds 3 and 4: the box's answer, and hearing it.
 use rules::Around;
 use rules::BoxPlan;
 use rules::Effect;
@@ -9,7 +9,7 @@ use rules::Train;
 ghost use mathlib.Core.Path.{_≡_};
 ghost use Rattle.rules.specs.Steps.{send, reply, boxAnswers, trainHears};
 
-// Kinds 1 and 2: the message is sent.
+// Kinds 1, 2, 7 and 8: the message is sent, and what is given back is no longer recorded.
 pub(crate) fn send(v: Around, r: Train, x: SwitchBox, q: Request) -> Effect
     ensures { λ d. ⌜ d ≡ send v r x q ⌝ }
 {
@@ -17,7 +17,7 @@ pub(crate) fn send(v: Around, r: Train, x: SwitchBox, q: Request) -> Effect
     if code != 0 {
         return Effect::Refused(code);
     }
-    Effect::Changed(0, traincomputer::with_message(r, Message::Sent(q)), x)
+    Effect::Changed(0, traincomputer::asking(v, r, q), x)
 }
 
 // The box answers a request: a yes is carried out, a no leaves it as it was.

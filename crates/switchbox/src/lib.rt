@@ -2,16 +2,18 @@
 // after a train.
 use rules::Around;
 use rules::BoxPlan;
+use rules::Holding;
 use rules::Request;
 use rules::SwitchBox;
 ghost use mathlib.Core.Path.{_≡_};
+ghost use Prim.Native.Nat.{ℕ};
 ghost use mathlib.Core.Bool.{cond, _&&_};
 ghost use lib.Dec.{eqb};
 ghost use Rattle.rules.specs.Rows.{first};
 ghost use Rattle.rules.specs.Track.{joins};
-ghost use Rattle.rules.specs.declared.Request.the-variants.{Reserve, Lock};
+ghost use Rattle.rules.specs.declared.Holding.the-variants.{NextAt, LockAt};
 ghost use Rattle.rules.specs.Line.{holderOf, setHolder};
-ghost use Rattle.rules.specs.Steps.{another, boxRows, positionFor, lockGiven, granted, released};
+ghost use Rattle.rules.specs.Steps.{another, grantRows, boxRows, positionFor, lockGiven, lockFreed, stands, given, freed, granted, released};
 
 // The box's code for a yes.
 const YES: u8 = 0;
@@ -63,9 +65,9 @@ fn another(i: u8, holder: u8) -> bool
     holder != i
 }
 
-// Code 22 of a reservation.
-fn reserve_code(v: Around, p: BoxPlan, x: SwitchBox, b: u8) -> u8
-    ensures { λ c. ⌜ c ≡ first (boxRows v p x (Reserve b)) ⌝ }
+// Code 22 of a reservation, whatever the box's number.
+fn reserve_code(v: Around, p: BoxPlan, x: SwitchBox) -> u8
+    ensures { λ c. ⌜ ((b : ℕ) → c ≡ first (grantRows v p x (NextAt b))) ⌝ }
 {
     if another(v.number, holder_of(p, x, v.next)) {
         return 22;
@@ -83,9 +85,9 @@ fn holds_both(v: Around, p: BoxPlan, x: SwitchBox) -> bool
     holder_of(p, x, v.next) == v.number
 }
 
-// Codes 23 to 25 of a lock.
-fn lock_code(v: Around, p: BoxPlan, x: SwitchBox, b: u8) -> u8
-    ensures { λ c. ⌜ c ≡ first (boxRows v p x (Lock b)) ⌝ }
+// Codes 23 to 25 of a lock, whatever the box's number.
+fn lock_code(v: Around, p: BoxPlan, x: SwitchBox) -> u8
+    ensures { λ c. ⌜ ((b : ℕ) → c ≡ first (grantRows v p x (LockAt b))) ⌝ }
 {
     if x.sensor {
         return 23;
@@ -99,13 +101,15 @@ fn lock_code(v: Around, p: BoxPlan, x: SwitchBox, b: u8) -> u8
     YES
 }
 
-// The box's code for a request.
+// The box's code for a request: what gives back is always answered yes.
 pub fn box_code(v: Around, p: BoxPlan, x: SwitchBox, q: Request) -> u8
     ensures { λ c. ⌜ c ≡ first (boxRows v p x q) ⌝ }
 {
     match q {
-        Request::Reserve(b) => reserve_code(v, p, x, b),
-        Request::Lock(b) => lock_code(v, p, x, b),
+        Request::Reserve(_) => reserve_code(v, p, x),
+        Request::Lock(_) => lock_code(v, p, x),
+        Request::GiveBack(_) => YES,
+        Request::Unlock(_) => YES,
     }
 }
 
@@ -146,13 +150,64 @@ fn locked(v: Around, p: BoxPlan, x: SwitchBox) -> SwitchBox
     y
 }
 
+// The lock of the point is free.
+fn unlocked(x: SwitchBox) -> SwitchBox
+    ensures { λ y. ⌜ y ≡ lockFreed x ⌝ }
+{
+    let mut y = x;
+    y.lock = 0;
+    y
+}
+
+// The box has it for the train.
+fn stands(v: Around, p: BoxPlan, x: SwitchBox, h: Holding) -> bool
+    ensures { λ z. ⌜ z ≡ stands v p x h ⌝ }
+{
+    match h {
+        Holding::NextAt(_) => holder_of(p, x, v.next) == v.number,
+        Holding::LockAt(_) => x.lock == v.number,
+    }
+}
+
+// The box once it is the train's.
+fn given(v: Around, p: BoxPlan, x: SwitchBox, h: Holding) -> SwitchBox
+    ensures { λ y. ⌜ y ≡ given v p x h ⌝ }
+{
+    match h {
+        Holding::NextAt(_) => set_holder(p, x, v.next, v.number),
+        Holding::LockAt(_) => locked(v, p, x),
+    }
+}
+
+// The box once it is free.
+fn freed(v: Around, p: BoxPlan, x: SwitchBox, h: Holding) -> SwitchBox
+    ensures { λ y. ⌜ y ≡ freed v p x h ⌝ }
+{
+    match h {
+        Holding::NextAt(_) => set_holder(p, x, v.next, 0),
+        Holding::LockAt(_) => unlocked(x),
+    }
+}
+
+// The box once it is free, if it was the train's.
+fn taken_back(v: Around, p: BoxPlan, x: SwitchBox, h: Holding) -> SwitchBox
+    ensures { λ y. ⌜ y ≡ cond (stands v p x h) (freed v p x h) x ⌝ }
+{
+    if stands(v, p, x, h) {
+        return freed(v, p, x, h);
+    }
+    x
+}
+
 // The box after its yes.
 pub fn granted(v: Around, p: BoxPlan, x: SwitchBox, q: Request) -> SwitchBox
     ensures { λ y. ⌜ y ≡ granted v p x q ⌝ }
 {
     match q {
-        Request::Reserve(_) => set_holder(p, x, v.next, v.number),
-        Request::Lock(_) => locked(v, p, x),
+        Request::Reserve(b) => given(v, p, x, Holding::NextAt(b)),
+        Request::Lock(b) => given(v, p, x, Holding::LockAt(b)),
+        Request::GiveBack(b) => taken_back(v, p, x, Holding::NextAt(b)),
+        Request::Unlock(b) => taken_back(v, p, x, Holding::LockAt(b)),
     }
 }
 

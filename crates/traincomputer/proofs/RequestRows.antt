@@ -1,4 +1,4 @@
--- Laws of the rows of a request: its codes 16 and 17, then 18.
+-- Laws of the rows of a request: its codes 16 and 17, then 18 or 29.
 use Prim.Native.Nat.{ℕ}
 use mathlib.Core.Path.{_≡_, sym, _∙_}
 use mathlib.Core.Logic.{_≢_}
@@ -9,7 +9,7 @@ use Rattle.rules.specs.declared.Around.{Around}
 use Rattle.rules.specs.declared.Train.{Train}
 use Rattle.rules.specs.declared.Request.{Request}
 use Rattle.rules.specs.Rows.{Row, first}
-use Rattle.rules.specs.Steps.{addressRows, addressed, atEnd}
+use Rattle.rules.specs.Steps.{addressRows, holding, addressed, atEnd}
 use Rattle.rules.proofs.Tests.{first-before}
 
 -- The code of the first rows, where it is not 0, is that of all.
@@ -25,4 +25,4 @@ after false false e f = f
 pub address-after : (v : Around) (r : Train) (q : Request) (rows : List Row) (c d : ℕ) → d ≡ first (addressRows v r q) → d ≡ 0
     → c ≡ first rows → c ≡ first (addressRows v r q ++ rows)
 unfolding addressRows first
-address-after v r q rows c d e n f = after (atEnd r) (not (addressed v q)) (sym e ∙ n) f
+address-after v r q rows c d e n f = after (atEnd r) (not (addressed v (holding q))) (sym e ∙ n) f

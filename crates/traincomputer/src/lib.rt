@@ -3,15 +3,16 @@
 pub mod sight;
 
 use rules::Around;
+use rules::Holding;
 use rules::Message;
 use rules::Request;
 use rules::Train;
 ghost use mathlib.Core.Path.{_≡_};
-ghost use mathlib.Core.Bool.{_&&_, _||_};
+ghost use mathlib.Core.Bool.{not, _&&_, _||_};
 ghost use lib.Dec.{eqb};
 ghost use Rattle.rules.specs.Rows.{first};
 ghost use Rattle.rules.specs.Line.{requestBox, messageBox};
-ghost use Rattle.rules.specs.Steps.{withMessage, isOpen, addressed, recorded, addressRows, requestRows, withHolding, heard, enterRows};
+ghost use Rattle.rules.specs.Steps.{withMessage, isOpen, holding, givesBack, addressed, recorded, addressRows, recordRows, requestRows, withHolding, withoutHolding, asking, heard, enterRows};
 
 // The box of a message, 0 where there is none.
 pub fn message_box(message: Message) -> u8
@@ -30,6 +31,32 @@ fn request_box(q: Request) -> u8
     match q {
         Request::Reserve(b) => b,
         Request::Lock(b) => b,
+        Request::GiveBack(b) => b,
+        Request::Unlock(b) => b,
+    }
+}
+
+// What a request is about.
+fn holding_of(q: Request) -> Holding
+    ensures { λ h. ⌜ h ≡ holding q ⌝ }
+{
+    match q {
+        Request::Reserve(b) => Holding::NextAt(b),
+        Request::Lock(b) => Holding::LockAt(b),
+        Request::GiveBack(b) => Holding::NextAt(b),
+        Request::Unlock(b) => Holding::LockAt(b),
+    }
+}
+
+// The request gives back what it is about.
+fn gives_back(q: Request) -> bool
+    ensures { λ x. ⌜ x ≡ givesBack q ⌝ }
+{
+    match q {
+        Request::Reserve(_) => false,
+        Request::Lock(_) => false,
+        Request::GiveBack(_) => true,
+        Request::Unlock(_) => true,
     }
 }
 
@@ -60,13 +87,13 @@ fn is_open(message: Message) -> bool
     }
 }
 
-// The request may be made at its box.
-fn addressed(v: Around, q: Request) -> bool
-    ensures { λ x. ⌜ x ≡ addressed v q ⌝ }
+// A request about it may be made at its box.
+fn addressed(v: Around, h: Holding) -> bool
+    ensures { λ x. ⌜ x ≡ addressed v h ⌝ }
 {
-    match q {
-        Request::Reserve(b) => b == v.nearEnd || b == v.farEnd,
-        Request::Lock(b) => b == v.ahead && v.point,
+    match h {
+        Holding::NextAt(b) => b == v.nearEnd || b == v.farEnd,
+        Holding::LockAt(b) => b == v.ahead && v.point,
     }
 }
 
@@ -80,18 +107,18 @@ fn recorded_at(b: u8, end: u8, before: bool) -> bool
     before
 }
 
-// What is asked for is recorded already.
-fn recorded(v: Around, r: Train, q: Request) -> bool
-    ensures { λ x. ⌜ x ≡ recorded v r q ⌝ }
+// The train has recorded it.
+fn recorded(v: Around, r: Train, h: Holding) -> bool
+    ensures { λ x. ⌜ x ≡ recorded v r h ⌝ }
 {
-    match q {
-        Request::Reserve(b) => {
+    match h {
+        Holding::NextAt(b) => {
             if recorded_at(b, v.nearEnd, r.near) {
                 return true;
             }
             recorded_at(b, v.farEnd, r.far)
         }
-        Request::Lock(_) => r.lock,
+        Holding::LockAt(_) => r.lock,
     }
 }
 
@@ -102,13 +129,30 @@ pub fn address_code(v: Around, r: Train, q: Request) -> u8
     if r.length <= r.place {
         return 16;
     }
-    if !addressed(v, q) {
+    if !addressed(v, holding_of(q)) {
         return 17;
     }
     0
 }
 
-// Codes 15 to 18 of a request.
+// 18 where what is asked for is recorded already, 29 where what is given back is not recorded.
+fn record_code(v: Around, r: Train, q: Request) -> u8
+    ensures { λ c. ⌜ c ≡ first (recordRows v r q) ⌝ }
+{
+    let known = recorded(v, r, holding_of(q));
+    if gives_back(q) {
+        if known {
+            return 0;
+        }
+        return 29;
+    }
+    if known {
+        return 18;
+    }
+    0
+}
+
+// Codes 15 to 18 and 29 of a request.
 pub fn request_code(v: Around, r: Train, q: Request) -> u8
     ensures { λ c. ⌜ c ≡ first (requestRows v r q) ⌝ }
 {
@@ -120,10 +164,7 @@ pub fn request_code(v: Around, r: Train, q: Request) -> u8
     if address != 0 {
         return address;
     }
-    if recorded(v, r, q) {
-        return 18;
-    }
-    0
+    record_code(v, r, q)
 }
 
 // The reservation at this end is recorded, if box b is at it or it was so before.
@@ -136,32 +177,69 @@ fn recorded_after(b: u8, end: u8, before: bool) -> bool
     before
 }
 
-// The train after it has recorded what it asked for.
-fn with_holding(v: Around, r: Train, q: Request) -> Train
-    ensures { λ y. ⌜ y ≡ withHolding v r q ⌝ }
+// The train after it has recorded it.
+fn with_holding(v: Around, r: Train, h: Holding) -> Train
+    ensures { λ y. ⌜ y ≡ withHolding v r h ⌝ }
 {
     let mut train = r;
-    match q {
-        Request::Reserve(b) => {
+    match h {
+        Holding::NextAt(b) => {
             train.near = recorded_after(b, v.nearEnd, r.near);
             train.far = recorded_after(b, v.farEnd, r.far);
         }
-        Request::Lock(_) => {
+        Holding::LockAt(_) => {
             train.lock = true;
         }
     }
     train
 }
 
-// The train after it has heard an answer: a yes is recorded, and the message is gone.
+// The reservation at this end is still recorded, unless box b is at it.
+fn recorded_still(b: u8, end: u8, before: bool) -> bool
+    ensures { λ x. ⌜ x ≡ (not (eqb b end) && before) ⌝ }
+{
+    if b == end {
+        return false;
+    }
+    before
+}
+
+// The train after it has dropped the record of it.
+fn without_holding(v: Around, r: Train, h: Holding) -> Train
+    ensures { λ y. ⌜ y ≡ withoutHolding v r h ⌝ }
+{
+    let mut train = r;
+    match h {
+        Holding::NextAt(b) => {
+            train.near = recorded_still(b, v.nearEnd, r.near);
+            train.far = recorded_still(b, v.farEnd, r.far);
+        }
+        Holding::LockAt(_) => {
+            train.lock = false;
+        }
+    }
+    train
+}
+
+// The train after it has sent a request: what it gives back is no longer recorded.
+pub fn asking(v: Around, r: Train, q: Request) -> Train
+    ensures { λ y. ⌜ y ≡ asking v r q ⌝ }
+{
+    if gives_back(q) {
+        return with_message(without_holding(v, r, holding_of(q)), Message::Sent(q));
+    }
+    with_message(r, Message::Sent(q))
+}
+
+// The train after it has heard an answer: a yes to what it asked for is recorded, and the message is gone.
 pub fn heard(v: Around, r: Train, q: Request, code: u8) -> Train
     ensures { λ y. ⌜ y ≡ heard v r q code ⌝ }
 {
     let gone = with_message(r, Message::Idle);
-    if code != 0 {
-        return gone;
+    if code == 0 && !gives_back(q) {
+        return with_holding(v, gone, holding_of(q));
     }
-    with_holding(v, gone, q)
+    gone
 }
 
 // Codes 20, 16 and 19 of Enter.

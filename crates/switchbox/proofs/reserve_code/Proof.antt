@@ -1,17 +1,17 @@
 -- Each answer is that of the definition, test by test.
 use Rattle.rules.specs.Rows.{first}
-use Rattle.rules.specs.Steps.{boxRows}
+use Rattle.rules.specs.Steps.{grantRows}
 use borrow.Author.Needs.{needs}
 use Rattle.switchbox.proofs.reserve_code.Statement.{statement}
 use Rattle.switchbox.proofs.reserve_code.Tie as tie
 
 returns : tie.Need-returns
-unfolding first boxRows
-returns c = rw (← c .before .before .holder-of .ensures, ← c .before .another .ensures, c .if1 .taken)
+unfolding first grantRows
+returns c b = rw (← c .before .before .holder-of .ensures, ← c .before .another .ensures, c .if1 .taken)
 
 returns-2 : tie.Need-returns-2
-unfolding first boxRows
-returns-2 c = rw (← c .before .before .holder-of .ensures, ← c .before .another .ensures, c .if1 .left)
+unfolding first grantRows
+returns-2 c b = rw (← c .before .before .holder-of .ensures, ← c .before .another .ensures, c .if1 .left)
 
 pub reserve-code-spec : {M : Type 1} → statement M
 reserve-code-spec = tie.close (tie.spec (λ c κs. search needs) (λ c κs. search needs) returns returns-2)

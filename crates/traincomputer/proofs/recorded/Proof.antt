@@ -7,11 +7,11 @@ use Rattle.traincomputer.proofs.recorded.Tie as tie
 
 returns : tie.Need-returns
 unfolding recorded
-returns c = rw (c .before .before .before .q .given .1) (search tests depth 12)
+returns c = rw (c .before .before .before .h .given .1) (search tests depth 12)
 
 returns-2 : tie.Need-returns-2
 unfolding recorded
-returns-2 c = rw (c .before .before .before .before .q .given .1) (search tests depth 12)
+returns-2 c = rw (c .before .before .before .before .h .given .1) (search tests depth 12)
 
 returns-3 : tie.Need-returns-3
 unfolding recorded

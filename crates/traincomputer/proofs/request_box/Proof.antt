@@ -12,5 +12,23 @@ returns-2 : tie.Need-returns-2
 unfolding requestBox
 returns-2 c = rw (c .before .q2 .given .1)
 
+returns-3 : tie.Need-returns-3
+unfolding requestBox
+returns-3 c = rw (c .before .q3 .given .1)
+
+returns-4 : tie.Need-returns-4
+unfolding requestBox
+returns-4 c = rw (c .before .q4 .given .1)
+
 pub request-box-spec : {M : Type 1} → statement M
-request-box-spec = tie.close (tie.spec (λ c. search needs) (λ c. search needs) returns returns-2)
+request-box-spec =
+    tie.close
+    (tie.spec
+    (λ c. search needs)
+    (λ c. search needs)
+    (λ c. search needs)
+    (λ c. search needs)
+    returns
+    returns-2
+    returns-3
+    returns-4)

@@ -19,10 +19,6 @@ returns-3 : tie.Need-returns-3
 unfolding first requestRows
 returns-3 c = search (tests, address-after) depth 12
 
-returns-4 : tie.Need-returns-4
-unfolding first requestRows
-returns-4 c = search (tests, address-after) depth 12
-
 pub request-code-spec : {M : Type 1} → statement M
 request-code-spec =
     tie.close
@@ -32,5 +28,4 @@ request-code-spec =
     (λ c κs. search needs)
     returns-2
     (λ c κs. search needs)
-    returns-3
-    returns-4)
+    returns-3)

@@ -7,7 +7,7 @@ use Rattle.traincomputer.proofs.with_holding.Tie as tie
 returns : tie.Need-returns
 unfolding withHolding
 returns c =
-    rw (c .before .before .before .q .given .1, c .before .recorded-after .ensures, c .recorded-after2 .ensures)
+    rw (c .before .before .before .h .given .1, c .before .recorded-after .ensures, c .recorded-after2 .ensures)
 
 returns-2 : tie.Need-returns-2
 unfolding withHolding

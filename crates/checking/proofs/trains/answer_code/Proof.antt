@@ -1,6 +1,8 @@
 -- Each arm by its variant and its tests.
 use mathlib.Core.Path.{refl}
 use borrow.Author.Needs.{needs}
+use borrow.Author.Tests.{ne-eqb}
+use Rattle.rules.specs.Record.{answerCode}
 use Rattle.rules.proofs.Tests.{tests}
 use Rattle.checking.proofs.Laws.{answer-zero, answer-reserved, answer-locked}
 use Rattle.checking.proofs.trains.answer_code.Statement.{statement}
@@ -21,7 +23,26 @@ returns-4 c = answer-reserved _ _ _ _ (c .enum-told .given .1) (c .before .befor
 returns-5 : tie.Need-returns-5
 returns-5 c = answer-locked _ _ _ _ (c .before .before .enum-told2 .given .1) (c .before .before .before .before .if1 .left) (search tests)
 
+returns-6 : tie.Need-returns-6
+unfolding answerCode
+returns-6 c = rw (c .enum-told3 .given .1, ne-eqb _ 0 (c .before .before .if1 .left))
+
+returns-7 : tie.Need-returns-7
+unfolding answerCode
+returns-7 c = rw (c .enum-told4 .given .1, ne-eqb _ 0 (c .before .before .if1 .left))
+
 pub answer-code-spec : {M : Type 1} → statement M
 answer-code-spec =
     tie.close
-    (tie.spec returns (λ c. search needs) (λ c. search needs) returns-2 returns-3 returns-4 returns-5)
+    (tie.spec
+    returns
+    (λ c. search needs)
+    (λ c. search needs)
+    returns-2
+    returns-3
+    (λ c. search needs)
+    (λ c. search needs)
+    returns-4
+    returns-5
+    returns-6
+    returns-7)

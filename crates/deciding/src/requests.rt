@@ -17,7 +17,7 @@ pub(crate) fn send(v: Around, r: Train, x: SwitchBox, q: Request) -> Effect
     if code != 0 {
         return Effect::Refused(code);
     }
-    Effect::Changed(0, traincomputer::asking(v, r, q), x)
+    Effect::Changed(0, traincomputer::sending(v, r, q), x)
 }
 
 // The box answers a request: a yes is carried out, a no leaves it as it was.

@@ -20,8 +20,8 @@ use Rattle.rules.specs.declared.Outcome.{Outcome}
 use Rattle.rules.specs.Rows.{_if_, first}
 use Rattle.rules.specs.File.{decode}
 use Rattle.rules.specs.declared.Around.{Around}
-use Rattle.rules.specs.Line.{startLine, aroundOn, around, boxAt, trainAt, messageBox}
-use Rattle.rules.specs.Steps.{Step, holding, givesBack, holdingBox, addressed, another, grantRows, boxRows, apply, reply, boxAnswers, formed, effect, step}
+use Rattle.rules.specs.Line.{startLine, aroundOn, around, boxAt, trainAt, messageBox, holding, givesBack, holdingBox, requestBox}
+use Rattle.rules.specs.Steps.{Step, addressed, another, grantRows, boxRows, apply, reply, boxAnswers, formed, effect, step}
 use Rattle.rules.specs.Record.{answerCode}
 use Rattle.rules.specs.Safety.{TrainOf, reached}
 use Rattle.rules.specs.Invariant.{CrossesAt, crossedPoint, settled, sent, Invariant}
@@ -32,7 +32,6 @@ use Rattle.rules.proofs.Sound.{MessageSound, answering}
 use Rattle.rules.proofs.Steps.{step-taken}
 use Rattle.rules.proofs.StepKinds.{request-kind, Does, refuses, sends, denies, grants, hears, enters, clears, does, is-answer}
 use Rattle.rules.proofs.StepRows.{address-iff, lock-address-iff}
-use Rattle.rules.proofs.Holdings.{request-box}
 use Rattle.rules.proofs.Change.{Steady, ahead-uncrossed}
 use Rattle.rules.proofs.Settled.{line-sound, settling, table-quiet, around-quiet, box-quiet}
 use Rattle.rules.proofs.SettledSteps.{addressed-open, enter-idle}
@@ -85,11 +84,11 @@ module _ {a : Line} (h : Steady a) {i : ℕ} (k : TrainOf (a .table) i) where
 -- A box says 23 only where another train holds its lock.
 lock-held : {l : Line} → Invariant l → (s : Step) → s .kind ≡ 3 → step l s .code ≡ 23
     → another (s .train) (boxAt l (messageBox (trainAt l (s .train) .message)) .lock) ≡ true
-unfolding messageBox holdingBox
+unfolding messageBox requestBox holdingBox
 lock-held {l} h s kind code =
     let (q, (w, _)) = is-answer (does l s) kind (λ _. code) in
     let (next, at) = address-iff _ _ _ .0 (addressed-open h (s .train) (w .train) q (rw (w .sent) sent)) in
-    rw (w .sent, request-box q) (go (holding q) (w .train) at (rw (request-box q) at (row-23 _ _ _ q (w .code ∙ code))))
+    rw (w .sent) (go (holding q) (w .train) at (row-23 _ _ _ q (w .code ∙ code)))
   where
     go : (z : Holding) → TrainOf (l .table) (s .train) → addressed (around l (s .train)) z ≡ true → Blocked (boxAt l (holdingBox z)) z
         → another (s .train) (boxAt l (holdingBox z) .lock) ≡ true

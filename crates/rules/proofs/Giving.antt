@@ -17,8 +17,8 @@ use Rattle.rules.specs.declared.Train.{Train}
 use Rattle.rules.specs.declared.Line.{Line}
 use Rattle.rules.specs.Rows.{first}
 use Rattle.rules.specs.Track.{planAt, routeAt}
-use Rattle.rules.specs.Line.{requestBox, aroundOn, around, boxAt, trainAt, putTrain, holderOf, setHolder}
-use Rattle.rules.specs.Steps.{holding, givesBack, addressed, recorded, addressRows, withRecords, withoutHolding, lockFreed, stands, freed, granted}
+use Rattle.rules.specs.Line.{requestBox, aroundOn, around, boxAt, trainAt, putTrain, holderOf, setHolder, holding, givesBack, holdingBox}
+use Rattle.rules.specs.Steps.{addressed, recorded, addressRows, withRecords, withoutHolding, lockFreed, stands, freed, granted}
 use Rattle.rules.specs.Safety.{TrainOf}
 use Rattle.rules.specs.Invariant.{boxBeyond, Needs, ahead, crossed, nearRecorded, farRecorded, NeedsLock, crossedPoint, lockRecorded, Fits, Fitting}
 use Rattle.rules.proofs.Routes.{segment-once}
@@ -176,7 +176,7 @@ module _ {a : Line} (h : Steady a) {i : ℕ} (k : TrainOf (a .table) i) where
   pub give-fits
       : (q : Request) → givesBack q ≡ true → first (addressRows (around a i) r q) ≡ 0 → recorded (around a i) r (holding q) ≡ false
       → Fitting (put a i r (requestBox q) (granted (around a i) (planAt t (requestBox q)) (boxAt a (requestBox q)) q))
-  unfolding requestBox holding givesBack recorded stands freed around aroundOn
+  unfolding requestBox holdingBox holding givesBack recorded stands freed around aroundOn
   give-fits q gives e new =
       let (next, at) = address-iff (around a i) r q .0 e in
       granted-each (λ x. Fitting (put a i r (requestBox q) x)) _ _ _ q (λ n. absurd (false≢true (sym n ∙ gives))) (λ _. by q next at new)

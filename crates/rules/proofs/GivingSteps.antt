@@ -15,8 +15,8 @@ use Rattle.rules.specs.declared.Line.{Line}
 use Rattle.rules.specs.declared.Around.{Around}
 use Rattle.rules.specs.Rows.{first}
 use Rattle.rules.specs.Track.{planAt}
-use Rattle.rules.specs.Line.{aroundOn, aroundTrain, around, boxAt, trainAt, putTrain, requestBox}
-use Rattle.rules.specs.Steps.{Step, holding, givesBack, recorded, requestRows, withMessage, withHolding, withoutHolding, granted, sending, heard}
+use Rattle.rules.specs.Line.{aroundOn, aroundTrain, around, boxAt, trainAt, putTrain, requestBox, holding, givesBack}
+use Rattle.rules.specs.Steps.{Step, recorded, requestRows, withMessage, withHolding, withoutHolding, granted, sending, heard}
 use Rattle.rules.specs.Safety.{TrainOf}
 use Rattle.rules.specs.Invariant.{settledBy, settledTrain, settled, believedBy, believedTrain, believed, sent, Open, Invariant}
 use Rattle.rules.proofs.Frames.{put}

@@ -10,8 +10,8 @@ use Rattle.rules.specs.declared.Request.{Request}
 use Rattle.rules.specs.declared.Request.the-variants.{Reserve, Lock, GiveBack, Unlock}
 use Rattle.rules.specs.declared.Train.{Train}
 use Rattle.rules.specs.declared.Around.{Around}
-use Rattle.rules.specs.Line.{requestBox}
-use Rattle.rules.specs.Steps.{holding, holdingBox, addressed, recorded, withHolding, withoutHolding}
+use Rattle.rules.specs.Line.{requestBox, holding, holdingBox}
+use Rattle.rules.specs.Steps.{addressed, recorded, withHolding, withoutHolding}
 use Rattle.rules.proofs.Tests.{facts, or-false, or-false-left, or-false-right}
 
 -- The record r of one end of next, where `here` says whether a reservation is at that end.
@@ -38,14 +38,6 @@ again-recorded true false n f one e = (sym (sym (or-none n) ∙ e), refl)
     or-none false = refl
 again-recorded false true n f one e = (refl, sym e)
 again-recorded false false n f one e = (refl, refl)
-
--- A request is made at the box of what it is about.
-pub request-box : (q : Request) → requestBox q ≡ holdingBox (holding q)
-unfolding requestBox holding holdingBox
-request-box (Reserve b) = refl
-request-box (Lock b) = refl
-request-box (GiveBack b) = refl
-request-box (Unlock b) = refl
 
 module _ (v : Around) (r : Train) where
   -- What a train records and drops again, where it was not recorded before.

@@ -17,8 +17,8 @@ use Rattle.rules.specs.declared.Outcome.{Outcome}
 use Rattle.rules.specs.Rows.{first}
 use Rattle.rules.specs.Track.{planAt}
 use Rattle.rules.specs.declared.Around.{Around}
-use Rattle.rules.specs.Line.{aroundOn, aroundTrain, around, trainAt, putTrain, putBox, requestBox}
-use Rattle.rules.specs.Steps.{Step, holding, givesBack, withMessage, recorded, addressRows, sending, entered, cleared}
+use Rattle.rules.specs.Line.{aroundOn, aroundTrain, around, trainAt, putTrain, putBox, requestBox, holding, givesBack}
+use Rattle.rules.specs.Steps.{Step, withMessage, recorded, addressRows, sending, entered, cleared}
 use Rattle.rules.specs.Record.{answerCode}
 use Rattle.rules.specs.Safety.{TrainOf}
 use Rattle.rules.specs.Invariant.{withTrains, settled, Fitting, Open, sent, answered, Invariant}

@@ -16,8 +16,8 @@ use Rattle.rules.specs.declared.Line.{Line}
 use Rattle.rules.specs.declared.Outcome.{Outcome}
 use Rattle.rules.specs.Rows.{first}
 use Rattle.rules.specs.declared.Around.{Around}
-use Rattle.rules.specs.Line.{boxAt, trainAt, putTrain, setHolder}
-use Rattle.rules.specs.Steps.{Step, holding, grantRows, boxRows, given, freed, granted, entered, sensed, cleared, released}
+use Rattle.rules.specs.Line.{boxAt, trainAt, putTrain, setHolder, holding}
+use Rattle.rules.specs.Steps.{Step, grantRows, boxRows, given, freed, granted, entered, sensed, cleared, released}
 use Rattle.rules.specs.History.{Event, _answered_, Place, accepted, moved}
 use Rattle.rules.specs.Safety.{TrainOf, Fixed, placeIn, placeOf}
 use Rattle.rules.proofs.Tests.{facts, not-passed, first-zero-iff}

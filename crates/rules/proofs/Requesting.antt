@@ -17,8 +17,8 @@ use Rattle.rules.specs.declared.Line.{Line}
 use Rattle.rules.specs.Rows.{first}
 use Rattle.rules.specs.Track.{planAt, routeAt, isPoint}
 use Rattle.rules.specs.Network.{lists}
-use Rattle.rules.specs.Line.{requestBox, aroundOn, aroundTrain, around, boxAt, trainAt, holderOf, setHolder}
-use Rattle.rules.specs.Steps.{holding, givesBack, addressed, addressRows, grantRows, boxRows, another, positionFor, withHolding, lockGiven, given, granted, sensed}
+use Rattle.rules.specs.Line.{requestBox, aroundOn, aroundTrain, around, boxAt, trainAt, holderOf, setHolder, holding, givesBack, holdingBox}
+use Rattle.rules.specs.Steps.{addressed, addressRows, grantRows, boxRows, another, positionFor, withHolding, lockGiven, given, granted, sensed}
 use Rattle.rules.specs.Safety.{TrainOf}
 use Rattle.rules.specs.Invariant.{boxBeyond, Needs, ahead, crossed, nearRecorded, farRecorded, NeedsLock, crossedPoint, lockRecorded, UsesLock, Fitting}
 use Rattle.rules.proofs.Accepted.{Accepted, BoxOf}
@@ -44,7 +44,7 @@ module _ {t : Table} (a : Accepted t) {routes : List ℕ} {i : ℕ} {r : Train} 
       (or-true-iff _ _ (eqb-true-iff b _) (eqb-true-iff b _) .0 at)
 
   pub request-box : (q : Request) → first (addressRows (aroundTrain t routes i r) r q) ≡ 0 → BoxOf (t .m) (requestBox q)
-  unfolding requestBox holding aroundOn
+  unfolding requestBox holdingBox holding aroundOn
   request-box q e = let (next, at) = address-iff (aroundTrain t routes i r) r q .0 e in by q next at
     where
       lock-box : (b : ℕ) → addressed (aroundTrain t routes i r) (LockAt b) ≡ true → BoxOf (t .m) b
@@ -218,7 +218,7 @@ module _ {a : Line} (h : Steady a) {i : ℕ} (k : TrainOf (a .table) i) where
       : (q : Request) → givesBack q ≡ false → first (addressRows (around a i) r q) ≡ 0
       → first (boxRows (around a i) (planAt t (requestBox q)) (boxAt a (requestBox q)) q) ≡ 0
       → Fitting (afterRequest a i q)
-  unfolding boxRows grantRows requestBox holding givesBack given granted around aroundOn
+  unfolding boxRows grantRows requestBox holdingBox holding givesBack given granted around aroundOn
   request-fits (Reserve b) n e f =
       let (next, at) = address-iff (around a i) r (Reserve b) .0 e in
       let (free, none) = simp first-zero-iff at f in

@@ -22,8 +22,8 @@ use Rattle.rules.specs.declared.Outcome.{Outcome}
 use Rattle.rules.specs.declared.Around.{Around}
 use Rattle.rules.specs.Rows.{first}
 use Rattle.rules.specs.Track.{planAt}
-use Rattle.rules.specs.Line.{requestKind, requestBox, aroundOn, aroundTrain, around, boxAt, trainAt, putTrain, putBox, holderOf, setHolder}
-use Rattle.rules.specs.Steps.{Step, holding, givesBack, holdingBox, addressed, enterRows, stands, given, freed, granted, sending, withMessage, sensed, cleared, released, step}
+use Rattle.rules.specs.Line.{requestKind, requestBox, aroundOn, aroundTrain, around, boxAt, trainAt, putTrain, putBox, holderOf, setHolder, holding, givesBack, holdingBox}
+use Rattle.rules.specs.Steps.{Step, addressed, enterRows, stands, given, freed, granted, sending, withMessage, sensed, cleared, released, step}
 use Rattle.rules.specs.History.{_answered_, accepted, lineAfter, events}
 use Rattle.rules.specs.Safety.{TrainOf}
 use Rattle.rules.specs.Invariant.{nearRecorded, farRecorded, lockRecorded, sent, Invariant}
@@ -32,7 +32,6 @@ use Rattle.rules.proofs.Tests.{facts, cond-each, or-false-iff, or-true-
 use Rattle.rules.proofs.Frames.{put, box-put, every-train, every-box, train-alone, holder-other}
 use Rattle.rules.proofs.StepKinds.{afterGrant, Answers, Enters, Does, refuses, sends, denies, grants, hears, enters, clears, does, is-answer}
 use Rattle.rules.proofs.StepRows.{address-iff, lock-address-iff, granted-each, enter-iff}
-use Rattle.rules.proofs.Holdings.{request-box}
 use Rattle.rules.proofs.Change.{Steady, fits}
 use Rattle.rules.proofs.Settled.{line-sound, sized, Alike, message-alike, sending-alike, heard-alike, heard-message, settling, table-quiet, around-quiet, box-quiet}
 use Rattle.rules.proofs.SettledSteps.{addressed-open, enter-free}
@@ -75,9 +74,9 @@ module _ (v : Around) (nobody : eqb 0 (v .number) ≡ false) (p : BoxPlan) where
   -- train begins to cross the box; and once one has passed it.
   granted-off : (x : SwitchBox) (w : Around) (q : Request) (z : Holding) → requestBox q ≡ holdingBox z
       → (w .number ≡ v .number → holding q ≡ z → givesBack q ≡ true) → Off x z → Off (granted w p x q) z
-  unfolding stands given freed setHolder holderOf holdingBox
+  unfolding stands given freed setHolder holderOf requestBox holdingBox
   granted-off x w q z here returns off =
-      let (asked, freed) = by (holding q) z (sym (request-box q) ∙ here) off in
+      let (asked, freed) = by (holding q) z here off in
       granted-each (λ y. Off y z) w p x q (λ asks. asked (λ e about. false≢true (sym asks ∙ returns e about))) (λ _ _. freed) off
     where
       by : (y z : Holding) → holdingBox y ≡ holdingBox z → Off x z
@@ -124,7 +123,7 @@ enter-held {l} h {s} w z may =
 -- An accepted request that does not ask for what it is about gives it back.
 unasked : (s : Step) (i : ℕ) (q : Request) → s .kind ≡ requestKind q → s .train ≡ i → s .box ≡ requestBox q
     → asksFor i (holding q) (s answered 0) ≡ false → givesBack q ≡ true
-unfolding givesBack requestKind requestBox holding asksFor accepted
+unfolding givesBack requestKind requestBox holdingBox holding asksFor accepted
 unasked s i (Reserve b) kind train box none = absurd (false≢true (sym none ∙ simp facts (((kind, train), refl), box)))
 unasked s i (Lock b) kind train box none = absurd (false≢true (sym none ∙ simp facts (((kind, train), refl), box)))
 unasked s i (GiveBack b) kind train box none = refl
@@ -176,7 +175,7 @@ put-gone l i z j r b x somebody at returns this off =
 -- The box has answered a train's give-back.
 grant-gone : {l : Line} → Invariant l → {s : Step} {q : Request} {c : ℕ} → Answers l s q c → givesBack q ≡ true
     → Gone (afterGrant l (s .train) q) (s .train) (holding q)
-unfolding Returns around aroundOn withMessage
+unfolding Returns around aroundOn withMessage requestBox
 grant-gone {l} h {s} {q} w gives =
     let i = s .train in
     let address = addressed-open h i (w .train) q (rw (w .sent) sent) in
@@ -184,7 +183,7 @@ grant-gone {l} h {s} {q} w gives =
     let somebody = ne-eqb 0 i (λ e. omega (arith, w .train .low, e)) in
     put-gone l i (holding q) i _ (requestBox q) _ somebody (address-iff _ _ q .0 address .1) (rw (w .sent) (λ _. gives))
     (λ _. alike-stays (message-alike _ _) tt)
-    (rw (← request-box q, box-put l i _ (requestBox q) _ (sized h) box) (returned-off (around l i) somebody _ _ q gives))
+    (rw (box-put l i _ (requestBox q) _ (sized h) box) (returned-off (around l i) somebody _ _ q gives))
 
 -- Holding z is not train i's before a step that does not ask for it: nor is it after.
 module _ {l : Line} (h : Invariant l) {i : ℕ} {z : Holding} (g : Gone l i z) (s : Step) where

@@ -21,8 +21,8 @@ use Rattle.rules.specs.declared.Train.{Train}
 use Rattle.rules.specs.declared.Line.{Line}
 use Rattle.rules.specs.Rows.{first, nth, setNth, listOf}
 use Rattle.rules.specs.declared.Around.{Around}
-use Rattle.rules.specs.Line.{noTrain, aroundOn, aroundTrain, around, boxAt, trainAt, putTrain, putBox}
-use Rattle.rules.specs.Steps.{holding, givesBack, atEnd, addressRows, withMessage, withHolding, withoutHolding, sending, heard, cleared}
+use Rattle.rules.specs.Line.{noTrain, aroundOn, aroundTrain, around, boxAt, trainAt, putTrain, putBox, holding, givesBack}
+use Rattle.rules.specs.Steps.{atEnd, addressRows, withMessage, withHolding, withoutHolding, sending, heard, cleared}
 use Rattle.rules.specs.Invariant.{settledBy, settledTrain, believedBy, believedTrain, withTrains, Invariant}
 use Rattle.rules.proofs.Tests.{cond-each}
 use Rattle.rules.proofs.Rows.{list-length, list-at, list-same, list-all}

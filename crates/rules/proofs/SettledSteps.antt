@@ -17,8 +17,8 @@ use Rattle.rules.specs.declared.Line.{Line}
 use Rattle.rules.specs.Rows.{first}
 use Rattle.rules.specs.Track.{planAt}
 use Rattle.rules.specs.declared.Around.{Around}
-use Rattle.rules.specs.Line.{aroundOn, aroundTrain, around, boxAt, trainAt, requestBox}
-use Rattle.rules.specs.Steps.{Step, holding, givesBack, addressed, recorded, atEnd, addressRows, requestRows, boxRows, enterRows, clearRows, withMessage, withHolding, granted, sending, heard, entered, cleared}
+use Rattle.rules.specs.Line.{aroundOn, aroundTrain, around, boxAt, trainAt, requestBox, holding, givesBack}
+use Rattle.rules.specs.Steps.{Step, addressed, recorded, atEnd, addressRows, requestRows, boxRows, enterRows, clearRows, withMessage, withHolding, granted, sending, heard, entered, cleared}
 use Rattle.rules.specs.Safety.{TrainOf}
 use Rattle.rules.specs.Invariant.{withTrains, Open, sent, answered, Invariant}
 use Rattle.rules.proofs.Tests.{not-passed, or-left, and-true, first-none}

@@ -17,8 +17,8 @@ use Rattle.rules.specs.declared.Line.{Line}
 use Rattle.rules.specs.declared.Outcome.{Outcome}
 use Rattle.rules.specs.Rows.{first}
 use Rattle.rules.specs.Track.{planAt}
-use Rattle.rules.specs.Line.{around, boxAt, trainAt, putTrain, putBox, requestKind, requestBox}
-use Rattle.rules.specs.Steps.{Step, givesBack, apply, unless, sending, requestRows, boxRows, enterRows, clearRows, withMessage, entered, cleared, enter, clear, concernedBox}
+use Rattle.rules.specs.Line.{around, boxAt, trainAt, putTrain, putBox, requestKind, requestBox, givesBack, holding, holdingBox}
+use Rattle.rules.specs.Steps.{Step, apply, unless, sending, requestRows, boxRows, enterRows, clearRows, withMessage, entered, cleared, enter, clear, concernedBox}
 use Rattle.rules.specs.History.{_answered_, lineAfter, events}
 use Rattle.rules.specs.Atomic.{Kept, isRequest, keep, added, atomicRequest, atomicStep, stopped}
 use Rattle.rules.specs.Safety.{TrainOf}
@@ -102,7 +102,7 @@ module _ (a : Line) where
       : (i : ℕ) (q : Request) → first (requestRows (around a i) (trainAt a i) q) ≡ 0
       → first (boxRows (around a i) (planAt (a .table) (requestBox q)) (boxAt a (requestBox q)) q) ≡ 0
       → atomicStep a (requestStep i q) ≡ record { code = 0; line = afterRequest a i q }
-  unfolding atomicStep atomicRequest isRequest requestKind requestBox apply unless
+  unfolding atomicStep atomicRequest isRequest requestKind requestBox holding holdingBox apply unless
   atomic-request i (Reserve b) e f = rw (first-both (requestRows (around a i) (trainAt a i) (Reserve b)) _ e f)
   atomic-request i (Lock b) e f = rw (first-both (requestRows (around a i) (trainAt a i) (Lock b)) _ e f)
   atomic-request i (GiveBack b) e f = rw (first-both (requestRows (around a i) (trainAt a i) (GiveBack b)) _ e f)

@@ -16,8 +16,8 @@ use Rattle.rules.specs.declared.Train.{Train}
 use Rattle.rules.specs.Rows.{_if_, first}
 use Rattle.rules.specs.Track.{planAt, isPoint}
 use Rattle.rules.specs.declared.Around.{Around}
-use Rattle.rules.specs.Line.{aroundOn, aroundTrain, requestBox, setHolder}
-use Rattle.rules.specs.Steps.{addressRows, addressed, holding, givesBack, grantRows, boxRows, lockGiven, given, freed, granted, sensed, released}
+use Rattle.rules.specs.Line.{aroundOn, aroundTrain, requestBox, setHolder, holding, givesBack, holdingBox}
+use Rattle.rules.specs.Steps.{addressRows, addressed, grantRows, boxRows, lockGiven, given, freed, granted, sensed, released}
 use Rattle.rules.specs.Record.{answerCode}
 use Rattle.rules.proofs.Tests.{cond-each}
 use Rattle.rules.proofs.Boxes.{position-fits}
@@ -104,7 +104,7 @@ module _ (t : Table) (routes : List ℕ) (i : ℕ) (r : Train) {k : ℕ} {x : Sw
 
   given-sound : (q : Request) → BoxSound k (planAt t (requestBox q)) x → addressed (aroundTrain t routes i r) (holding q) ≡ true
       → BoxSound k (planAt t (requestBox q)) (given (aroundTrain t routes i r) (planAt t (requestBox q)) x (holding q))
-  unfolding requestBox holding given aroundOn
+  unfolding requestBox holdingBox holding given aroundOn
   given-sound (Reserve b) h at = holder-sound h _ _ low
   given-sound (Lock b) h at = lock-given-sound b h at
   given-sound (GiveBack b) h at = holder-sound h _ _ low

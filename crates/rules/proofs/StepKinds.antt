@@ -21,8 +21,8 @@ use Rattle.rules.specs.declared.Outcome.{Outcome}
 use Rattle.rules.specs.Rows.{Row, first}
 use Rattle.rules.specs.Track.{planAt}
 use Rattle.rules.specs.declared.Around.{Around}
-use Rattle.rules.specs.Line.{around, boxAt, trainAt, putTrain, requestKind, requestBox, messageBox}
-use Rattle.rules.specs.Steps.{Step, holding, givesBack, addressRows, recordRows, apply, unless, sending, send, reply, boxAnswers, trainHears, enter, clear, formed, formRows, stepRows, concernedBox, alone, effect, step, requestRows, boxRows, enterRows, clearRows, withMessage, withHolding, withoutHolding, granted, heard, entered, sensed, cleared, released}
+use Rattle.rules.specs.Line.{around, boxAt, trainAt, putTrain, requestKind, requestBox, messageBox, holding, givesBack, holdingBox}
+use Rattle.rules.specs.Steps.{Step, addressRows, recordRows, apply, unless, sending, send, reply, boxAnswers, trainHears, enter, clear, formed, formRows, stepRows, concernedBox, alone, effect, step, requestRows, boxRows, enterRows, clearRows, withMessage, withHolding, withoutHolding, granted, heard, entered, sensed, cleared, released}
 use Rattle.rules.specs.Safety.{TrainOf}
 use Rattle.rules.proofs.Tests.{cond-each, EachCode, each-code, outside-false-iff}
 use Rattle.rules.proofs.Steps.{formed-iff, step-row-iff}
@@ -250,7 +250,7 @@ module _ (l : Line) (s : Step) where
     effect-ends : (kind : ℕ) → s .kind ≡ kind → formed kind (s .box) ≡ true
         → let b = concernedBox kind (around l (s .train)) (trainAt l (s .train)) in
         EndsIn l s b (effect kind (s .box) (around l (s .train)) (trainAt l (s .train)) (planAt (l .table) b) (boxAt l b))
-    unfolding effect alone concernedBox requestKind requestBox
+    unfolding effect alone concernedBox requestKind requestBox holding holdingBox
     effect-ends kind e h = by kind e (known kind (s .box) h)
       where
         by : (kind : ℕ) → s .kind ≡ kind → Known kind

@@ -16,8 +16,8 @@ use Rattle.rules.specs.declared.Message.the-variants.{Idle, Sent, Answer
 use Rattle.rules.specs.declared.Train.{Train}
 use Rattle.rules.specs.Rows.{_if_, first}
 use Rattle.rules.specs.declared.Around.{Around}
-use Rattle.rules.specs.Line.{aroundOn, aroundTrain}
-use Rattle.rules.specs.Steps.{isOpen, holding, givesBack, addressed, recorded, atEnd, addressRows, recordRows, requestRows, stands, given, freed, granted, enterRows, clearRows, another}
+use Rattle.rules.specs.Line.{aroundOn, aroundTrain, holding, givesBack}
+use Rattle.rules.specs.Steps.{isOpen, addressed, recorded, atEnd, addressRows, recordRows, requestRows, stands, given, freed, granted, enterRows, clearRows, another}
 use Rattle.rules.specs.Invariant.{Open, sent, answered}
 use Rattle.rules.proofs.Tests.{facts, cond-each, implies-iff, first-none, first-zero-iff}
 

@@ -17,8 +17,8 @@ use Rattle.rules.specs.declared.Effect.the-variants.{Refused, Changed}
 use Rattle.rules.specs.declared.Outcome.{Outcome}
 use Rattle.rules.specs.Rows.{first}
 use Rattle.rules.specs.Track.{planAt}
-use Rattle.rules.specs.Line.{around, boxAt, trainAt}
-use Rattle.rules.specs.Steps.{Step, apply, holding, givesBack, unless, requestRows, boxRows, granted, withHolding, withoutHolding, enter, clear, concernedBox}
+use Rattle.rules.specs.Line.{around, boxAt, trainAt, holding, givesBack}
+use Rattle.rules.specs.Steps.{Step, apply, unless, requestRows, boxRows, granted, withHolding, withoutHolding, enter, clear, concernedBox}
 use Rattle.rules.specs.History.{Event}
 
 -- The last request of each train that was answered 0.

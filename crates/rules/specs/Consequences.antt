@@ -13,8 +13,8 @@ use Rattle.rules.specs.declared.Message.the-variants.{Idle, Sent, Answer
 use Rattle.rules.specs.declared.Line.{Line}
 use Rattle.rules.specs.File.{fileCode, decode}
 use Rattle.rules.specs.Track.{planAt}
-use Rattle.rules.specs.Line.{startLine, around, boxAt, trainAt, messageBox}
-use Rattle.rules.specs.Steps.{Step, holding, givesBack, holdingBox, another, stands, step}
+use Rattle.rules.specs.Line.{startLine, around, boxAt, trainAt, messageBox, holding, givesBack, holdingBox}
+use Rattle.rules.specs.Steps.{Step, another, stands, step}
 use Rattle.rules.specs.Record.{recordFault, checkedStep}
 use Rattle.rules.specs.History.{Event, lineAfter, events, accepted}
 use Rattle.rules.specs.Safety.{TrainOf, reached, history, atomic}

@@ -15,8 +15,8 @@ use Rattle.rules.specs.declared.Line.{Line}
 use Rattle.rules.specs.Rows.{listOf}
 use Rattle.rules.specs.Track.{planAt, routeAt, trackOf, farBox, nearBox, isPoint, joins}
 use Rattle.rules.specs.declared.Around.{Around}
-use Rattle.rules.specs.Line.{around, boxAt, trainAt, holderOf}
-use Rattle.rules.specs.Steps.{holding, givesBack, recorded, withMessage, withHolding, heard}
+use Rattle.rules.specs.Line.{around, boxAt, trainAt, holderOf, holding, givesBack}
+use Rattle.rules.specs.Steps.{recorded, withMessage, withHolding, heard}
 use Rattle.rules.specs.Record.{recordFault}
 use Rattle.rules.specs.Safety.{TrainOf, Covers, Crosses, placeIn, placeOf}
 

@@ -1,6 +1,6 @@
 -- A line (01, "The line"): its boxes and trains by number, its start, and what stands around a train.
 use Prim.Native.Nat.{ℕ, zero, suc, _+_, _-_}
-use mathlib.Core.Bool.{Bool, false, cond, _&&_}
+use mathlib.Core.Bool.{Bool, true, false, cond, _&&_}
 use mathlib.Core.List.{List}
 use lib.Dec.{eqb}
 use lib.ListN.{replicate}
@@ -8,6 +8,8 @@ use Rattle.rules.specs.declared.BoxPlan.{BoxPlan}
 use Rattle.rules.specs.declared.TrainPlan.{TrainPlan}
 use Rattle.rules.specs.declared.Table.{Table}
 use Rattle.rules.specs.declared.SwitchBox.{SwitchBox}
+use Rattle.rules.specs.declared.Holding.{Holding}
+use Rattle.rules.specs.declared.Holding.the-variants.{NextAt, LockAt}
 use Rattle.rules.specs.declared.Request.{Request}
 use Rattle.rules.specs.declared.Request.the-variants.{Reserve, Lock, GiveBack, Unlock}
 use Rattle.rules.specs.declared.Message.{Message}
@@ -20,6 +22,24 @@ use Rattle.rules.specs.Rows.{nth, setNth, listOf, filled}
 use Rattle.rules.specs.Track.{noSegment, noBoxPlan, noTrainPlan, routeAt, Track, trackOf, pointAt, farBox, nearBox}
 use Rattle.rules.specs.File.{fileCode, fileRefusal, decode}
 
+-- What a request is about, and whether it gives that back (kinds 7 and 8) or asks for it (kinds 1 and 2).
+unfoldable pub holding : Request → Holding
+holding (Reserve b) = NextAt b
+holding (Lock b) = LockAt b
+holding (GiveBack b) = NextAt b
+holding (Unlock b) = LockAt b
+
+unfoldable pub givesBack : Request → Bool
+givesBack (Reserve b) = false
+givesBack (Lock b) = false
+givesBack (GiveBack b) = true
+givesBack (Unlock b) = true
+
+-- The box at which the train has the holding.
+unfoldable pub holdingBox : Holding → ℕ
+holdingBox (NextAt b) = b
+holdingBox (LockAt b) = b
+
 -- The papers' numbers for a request: the kind of step that makes it, and its box.
 unfoldable pub requestKind : Request → ℕ
 requestKind (Reserve b) = 1
@@ -28,10 +48,7 @@ requestKind (GiveBack b) = 7
 requestKind (Unlock b) = 8
 
 unfoldable pub requestBox : Request → ℕ
-requestBox (Reserve b) = b
-requestBox (Lock b) = b
-requestBox (GiveBack b) = b
-requestBox (Unlock b) = b
+requestBox q = holdingBox (holding q)
 
 -- The numbers of a message's cases: its state (0 none, 1 sent, 2 answered), the kind and box of its request, and the answer's
 -- code; 0 for what a case does not have.

@@ -20,7 +20,7 @@ use Rattle.rules.specs.declared.Outcome.{Outcome}
 use Rattle.rules.specs.Rows.{Row, _if_, first, outside}
 use Rattle.rules.specs.Track.{planAt, joins}
 use Rattle.rules.specs.declared.Around.{Around}
-use Rattle.rules.specs.Line.{around, boxAt, trainAt, putTrain, putBox, holderOf, setHolder, messageBox}
+use Rattle.rules.specs.Line.{around, boxAt, trainAt, putTrain, putBox, holderOf, setHolder, holding, givesBack, messageBox}
 
 -- A step: three bytes.
 pub record Step : Type 0 where
@@ -82,24 +82,6 @@ unfoldable pub isOpen : Message → Bool
 isOpen Idle = false
 isOpen (Sent q) = true
 isOpen (Answered q c) = true
-
--- What a request is about, and whether it gives that back (kinds 7 and 8) or asks for it (kinds 1 and 2).
-unfoldable pub holding : Request → Holding
-holding (Reserve b) = NextAt b
-holding (Lock b) = LockAt b
-holding (GiveBack b) = NextAt b
-holding (Unlock b) = LockAt b
-
-unfoldable pub givesBack : Request → Bool
-givesBack (Reserve b) = false
-givesBack (Lock b) = false
-givesBack (GiveBack b) = true
-givesBack (Unlock b) = true
-
--- The box at which the train has the holding.
-unfoldable pub holdingBox : Holding → ℕ
-holdingBox (NextAt b) = b
-holdingBox (LockAt b) = b
 
 -- A request about the holding may be made at its box. A reservation: at an end of next. A lock: at the box ahead, a point.
 unfoldable pub addressed : Around → Holding → Bool

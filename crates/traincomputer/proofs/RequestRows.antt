@@ -9,7 +9,8 @@ use Rattle.rules.specs.declared.Around.{Around}
 use Rattle.rules.specs.declared.Train.{Train}
 use Rattle.rules.specs.declared.Request.{Request}
 use Rattle.rules.specs.Rows.{Row, first}
-use Rattle.rules.specs.Steps.{addressRows, holding, addressed, atEnd}
+use Rattle.rules.specs.Line.{holding}
+use Rattle.rules.specs.Steps.{addressRows, addressed, atEnd}
 use Rattle.rules.proofs.Tests.{first-before}
 
 -- The code of the first rows, where it is not 0, is that of all.

@@ -11,8 +11,8 @@ ghost use mathlib.Core.Path.{_≡_};
 ghost use mathlib.Core.Bool.{not, _&&_, _||_};
 ghost use lib.Dec.{eqb};
 ghost use Rattle.rules.specs.Rows.{first};
-ghost use Rattle.rules.specs.Line.{requestBox, messageBox};
-ghost use Rattle.rules.specs.Steps.{withMessage, isOpen, holding, givesBack, addressed, recorded, addressRows, recordRows, requestRows, withHolding, withoutHolding, asking, heard, enterRows};
+ghost use Rattle.rules.specs.Line.{requestBox, messageBox, holding, givesBack};
+ghost use Rattle.rules.specs.Steps.{withMessage, isOpen, addressed, recorded, addressRows, recordRows, requestRows, withHolding, withoutHolding, sending, heard, enterRows};
 
 // The box of a message, 0 where there is none.
 pub fn message_box(message: Message) -> u8
@@ -222,8 +222,8 @@ fn without_holding(v: Around, r: Train, h: Holding) -> Train
 }
 
 // The train after it has sent a request: what it gives back is no longer recorded.
-pub fn asking(v: Around, r: Train, q: Request) -> Train
-    ensures { λ y. ⌜ y ≡ asking v r q ⌝ }
+pub fn sending(v: Around, r: Train, q: Request) -> Train
+    ensures { λ y. ⌜ y ≡ sending v r q ⌝ }
 {
     if gives_back(q) {
         return with_message(without_holding(v, r, holding_of(q)), Message::Sent(q));

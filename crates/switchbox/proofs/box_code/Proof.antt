@@ -1,6 +1,7 @@
 -- Each arm by its variant.
 use Rattle.rules.specs.Rows.{first}
-use Rattle.rules.specs.Steps.{holding, givesBack, boxRows}
+use Rattle.rules.specs.Line.{holding, givesBack}
+use Rattle.rules.specs.Steps.{boxRows}
 use borrow.Author.Needs.{needs}
 use Rattle.switchbox.proofs.box_code.Statement.{statement}
 use Rattle.switchbox.proofs.box_code.Tie as tie

@@ -1,5 +1,6 @@
 -- Each arm by its variant.
-use Rattle.rules.specs.Steps.{holding, givesBack, granted}
+use Rattle.rules.specs.Line.{holding, givesBack}
+use Rattle.rules.specs.Steps.{granted}
 use borrow.Author.Needs.{needs}
 use Rattle.switchbox.proofs.granted.Statement.{statement}
 use Rattle.switchbox.proofs.granted.Tie as tie

@@ -1,6 +1,6 @@
 -- Each arm by its variant.
-use Rattle.rules.specs.Steps.{givesBack}
 use borrow.Author.Needs.{needs}
+use Rattle.rules.specs.Line.{givesBack}
 use Rattle.traincomputer.proofs.gives_back.Statement.{statement}
 use Rattle.traincomputer.proofs.gives_back.Tie as tie
 

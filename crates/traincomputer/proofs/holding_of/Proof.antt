@@ -1,6 +1,6 @@
 -- Each arm by its variant.
-use Rattle.rules.specs.Steps.{holding}
 use borrow.Author.Needs.{needs}
+use Rattle.rules.specs.Line.{holding}
 use Rattle.traincomputer.proofs.holding_of.Statement.{statement}
 use Rattle.traincomputer.proofs.holding_of.Tie as tie
 

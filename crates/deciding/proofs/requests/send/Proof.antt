@@ -12,7 +12,7 @@ returns c = rw (← c .before .request-code .ensures) (unless-stopped _ _ (c .if
 returns-2 : tie.Need-returns-2
 unfolding send
 returns-2 c =
-    rw (← c .before .before .request-code .ensures, c .asking .ensures) (unless-free _ _ (c .before .if1 .left))
+    rw (← c .before .before .request-code .ensures, c .sending .ensures) (unless-free _ _ (c .before .if1 .left))
 
 pub send-spec : {M : Type 1} → statement M
 send-spec = tie.close (tie.spec (λ c κs. search needs) returns (λ c κs. search needs) returns-2)

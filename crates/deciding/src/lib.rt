@@ -11,23 +11,38 @@ use rules::Request;
 use rules::SwitchBox;
 use rules::Train;
 ghost use mathlib.Core.Path.{_≡_};
+ghost use mathlib.Core.Bool.{cond};
+ghost use lib.Dec.{eqb};
+ghost use Prim.Native.Nat.{_≤_};
+ghost use Rattle.rules.specs.declared.Request.the-variants.{GiveBack, Unlock};
 ghost use Rattle.rules.specs.Rows.{first};
 ghost use Rattle.rules.specs.Track.{noBoxPlan};
 ghost use Rattle.rules.specs.Line.{noBox};
 ghost use Rattle.rules.specs.Steps.{formRows, concernedBox, alone, effect};
 
-// Code 13: kinds 1, 2, 7 and 8 have a box byte, kinds 3 to 6 have none, and there is no other kind.
-pub fn form_code(kind: u8, at: u8) -> u8
+// Code 13 of kinds 1 to 8: kinds 3 to 6 have no box byte.
+fn byte_code(kind: u8, at: u8) -> u8
+    requires { ⌜ 1 ≤ kind ⌝ }
+    requires { ⌜ kind ≤ 8 ⌝ }
     ensures { λ c. ⌜ c ≡ first (formRows kind at) ⌝ }
 {
     match kind {
-        1..=2 | 7..=8 => 0,
         3..=6 => {
             if at != 0 {
                 return 13;
             }
             0
         }
+        _ => 0,
+    }
+}
+
+// Code 13: kinds 1, 2, 7 and 8 have a box byte, kinds 3 to 6 have none, and there is no other kind.
+pub fn form_code(kind: u8, at: u8) -> u8
+    ensures { λ c. ⌜ c ≡ first (formRows kind at) ⌝ }
+{
+    match kind {
+        1..=8 => byte_code(kind, at),
         _ => 13,
     }
 }
@@ -45,16 +60,25 @@ pub fn concerned(kind: u8, v: Around, r: Train) -> u8
     }
 }
 
+// The request of kind 7 or 8.
+fn returned(kind: u8, at: u8) -> Request
+    ensures { λ q. ⌜ q ≡ cond (eqb kind 7) (GiveBack at) (Unlock at) ⌝ }
+{
+    if kind == 7 {
+        return Request::GiveBack(at);
+    }
+    Request::Unlock(at)
+}
+
 // The kinds that are the train's alone, 1, 2, 4, 7 and 8; there is no other. The box is handed through.
 pub fn alone(kind: u8, at: u8, v: Around, r: Train, x: SwitchBox) -> Effect
     ensures { λ d. ⌜ d ≡ alone kind at v r x ⌝ }
 {
     match kind {
-        1 => requests::send(v, r, x, Request::Reserve(at)),
-        2 => requests::send(v, r, x, Request::Lock(at)),
+        1 => requests::ask(v, r, x, Request::Reserve(at)),
+        2 => requests::ask(v, r, x, Request::Lock(at)),
         4 => requests::hear(v, r, x),
-        7 => requests::send(v, r, x, Request::GiveBack(at)),
-        8 => requests::send(v, r, x, Request::Unlock(at)),
+        7..=8 => requests::send(v, r, x, returned(kind, at)),
         _ => Effect::Refused(13),
     }
 }

@@ -7,6 +7,8 @@ use rules::Request;
 use rules::SwitchBox;
 use rules::Train;
 ghost use mathlib.Core.Path.{_≡_};
+ghost use mathlib.Core.Bool.{false};
+ghost use Rattle.rules.specs.Line.{givesBack};
 ghost use Rattle.rules.specs.Steps.{send, reply, boxAnswers, trainHears};
 
 // Kinds 1, 2, 7 and 8: the message is sent, and what is given back is no longer recorded.
@@ -18,6 +20,18 @@ pub(crate) fn send(v: Around, r: Train, x: SwitchBox, q: Request) -> Effect
         return Effect::Refused(code);
     }
     Effect::Changed(0, traincomputer::sending(v, r, q), x)
+}
+
+// Kinds 1 and 2: the same of a request that gives nothing back. Its two calls are compiled in place, which `send` is too long for.
+pub(crate) fn ask(v: Around, r: Train, x: SwitchBox, q: Request) -> Effect
+    requires { ⌜ givesBack q ≡ false ⌝ }
+    ensures { λ d. ⌜ d ≡ send v r x q ⌝ }
+{
+    let code = traincomputer::request_code(v, r, q);
+    if code != 0 {
+        return Effect::Refused(code);
+    }
+    Effect::Changed(0, traincomputer::with_message(r, Message::Sent(q)), x)
 }
 
 // The box answers a request: a yes is carried out, a no leaves it as it was.

@@ -1,5 +1,7 @@
 // What a switch box decides and does, on its plan and its record: its answer to a request, what its yes does, and what it frees
 // after a train.
+use messages::gives_back;
+use messages::holding_of;
 use rules::Around;
 use rules::BoxPlan;
 use rules::Holding;
@@ -101,16 +103,24 @@ fn lock_code(v: Around, p: BoxPlan, x: SwitchBox) -> u8
     YES
 }
 
+// The box's code for what is asked for.
+fn grant_code(v: Around, p: BoxPlan, x: SwitchBox, h: Holding) -> u8
+    ensures { λ c. ⌜ c ≡ first (grantRows v p x h) ⌝ }
+{
+    match h {
+        Holding::NextAt(_) => reserve_code(v, p, x),
+        Holding::LockAt(_) => lock_code(v, p, x),
+    }
+}
+
 // The box's code for a request: what gives back is always answered yes.
 pub fn box_code(v: Around, p: BoxPlan, x: SwitchBox, q: Request) -> u8
     ensures { λ c. ⌜ c ≡ first (boxRows v p x q) ⌝ }
 {
-    match q {
-        Request::Reserve(_) => reserve_code(v, p, x),
-        Request::Lock(_) => lock_code(v, p, x),
-        Request::GiveBack(_) => YES,
-        Request::Unlock(_) => YES,
+    if gives_back(q) {
+        return YES;
     }
+    grant_code(v, p, x, holding_of(q))
 }
 
 // Segments s and z are y and w, in this order.
@@ -203,12 +213,11 @@ fn taken_back(v: Around, p: BoxPlan, x: SwitchBox, h: Holding) -> SwitchBox
 pub fn granted(v: Around, p: BoxPlan, x: SwitchBox, q: Request) -> SwitchBox
     ensures { λ y. ⌜ y ≡ granted v p x q ⌝ }
 {
-    match q {
-        Request::Reserve(b) => given(v, p, x, Holding::NextAt(b)),
-        Request::Lock(b) => given(v, p, x, Holding::LockAt(b)),
-        Request::GiveBack(b) => taken_back(v, p, x, Holding::NextAt(b)),
-        Request::Unlock(b) => taken_back(v, p, x, Holding::LockAt(b)),
+    let h = holding_of(q);
+    if gives_back(q) {
+        return taken_back(v, p, x, h);
     }
+    given(v, p, x, h)
 }
 
 // The box that a train has passed: sensor passive, lock free, the reservations of both segments free.

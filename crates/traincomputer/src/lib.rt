@@ -2,6 +2,8 @@
 // what it sees around the train.
 pub mod sight;
 
+use messages::gives_back;
+use messages::holding_of;
 use rules::Around;
 use rules::Holding;
 use rules::Message;
@@ -11,7 +13,7 @@ ghost use mathlib.Core.Path.{_≡_};
 ghost use mathlib.Core.Bool.{not, _&&_, _||_};
 ghost use lib.Dec.{eqb};
 ghost use Rattle.rules.specs.Rows.{first};
-ghost use Rattle.rules.specs.Line.{requestBox, messageBox, holding, givesBack};
+ghost use Rattle.rules.specs.Line.{requestBox, messageBox};
 ghost use Rattle.rules.specs.Steps.{withMessage, isOpen, addressed, recorded, addressRows, recordRows, requestRows, withHolding, withoutHolding, sending, heard, enterRows};
 
 // The box of a message, 0 where there is none.
@@ -33,30 +35,6 @@ fn request_box(q: Request) -> u8
         Request::Lock(b) => b,
         Request::GiveBack(b) => b,
         Request::Unlock(b) => b,
-    }
-}
-
-// What a request is about.
-fn holding_of(q: Request) -> Holding
-    ensures { λ h. ⌜ h ≡ holding q ⌝ }
-{
-    match q {
-        Request::Reserve(b) => Holding::NextAt(b),
-        Request::Lock(b) => Holding::LockAt(b),
-        Request::GiveBack(b) => Holding::NextAt(b),
-        Request::Unlock(b) => Holding::LockAt(b),
-    }
-}
-
-// The request gives back what it is about.
-fn gives_back(q: Request) -> bool
-    ensures { λ x. ⌜ x ≡ givesBack q ⌝ }
-{
-    match q {
-        Request::Reserve(_) => false,
-        Request::Lock(_) => false,
-        Request::GiveBack(_) => true,
-        Request::Unlock(_) => true,
     }
 }
 
@@ -236,10 +214,15 @@ pub fn heard(v: Around, r: Train, q: Request, code: u8) -> Train
     ensures { λ y. ⌜ y ≡ heard v r q code ⌝ }
 {
     let gone = with_message(r, Message::Idle);
-    if code == 0 && !gives_back(q) {
-        return with_holding(v, gone, holding_of(q));
+    if code != 0 {
+        return gone;
     }
-    gone
+    match q {
+        Request::Reserve(b) => with_holding(v, gone, Holding::NextAt(b)),
+        Request::Lock(b) => with_holding(v, gone, Holding::LockAt(b)),
+        Request::GiveBack(_) => gone,
+        Request::Unlock(_) => gone,
+    }
 }
 
 // Codes 20, 16 and 19 of Enter.

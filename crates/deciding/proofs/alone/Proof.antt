@@ -1,43 +1,85 @@
 -- Each kind as the definition has it.
+use Prim.Native.Nat.{ℕ, _≤_, _<_}
+use mathlib.Core.Path.{_≡_, refl}
+use mathlib.Core.Logic.{_≢_}
+use mathlib.Core.Bool.{Bool, true, false, cond}
+use native.Mathlib.Omega.{arith}
+use lib.Dec.{eqb}
 use borrow.Author.Needs.{needs}
-use borrow.Author.Tests.{ne-eqb}
-use Rattle.rules.specs.Steps.{alone}
+use borrow.Author.Tests.{eq-eqb, ne-eqb, eqb-false}
+use Rattle.rules.specs.declared.Around.{Around}
+use Rattle.rules.specs.declared.Train.{Train}
+use Rattle.rules.specs.declared.SwitchBox.{SwitchBox}
+use Rattle.rules.specs.declared.Request.{Request}
+use Rattle.rules.specs.declared.Request.the-variants.{GiveBack, Unlock}
+use Rattle.rules.specs.declared.Effect.{Effect}
+use Rattle.rules.specs.declared.Effect.the-variants.{Refused}
+use Rattle.rules.specs.Line.{givesBack}
+use Rattle.rules.specs.Steps.{send, alone}
 use Rattle.deciding.proofs.alone.Statement.{statement}
 use Rattle.deciding.proofs.alone.Tie as tie
 
+-- Kinds 7 and 8: d is what sending their request does.
+sent-back : (kind at : ℕ) (v : Around) (r : Train) (x : SwitchBox) (q : Request) (d : Effect) → 7 ≤ kind → kind < 9
+    → q ≡ cond (eqb kind 7) (GiveBack at) (Unlock at)
+    → d ≡ send v r x q
+    → d ≡ alone kind at v r x
+unfolding alone
+sent-back kind at v r x q d low high e f =
+    rw (ne-eqb kind 1 (λ z. omega (arith, z)), ne-eqb kind 2 (λ z. omega (arith, z)), ne-eqb kind 4 (λ z. omega (arith, z))) (by (eqb kind 7) refl e)
+  where
+    by : (b : Bool) → eqb kind 7 ≡ b → q ≡ cond b (GiveBack at) (Unlock at)
+        → d ≡ cond b (send v r x (GiveBack at)) (cond (eqb kind 8) (send v r x (Unlock at)) (Refused 13))
+    by true g h = rw (← h) f
+    by false g h = rw (eq-eqb kind 8 (omega (arith, eqb-false kind 7 g)), ← h) f
+
+-- There is no other kind.
+no-other : (kind at : ℕ) (v : Around) (r : Train) (x : SwitchBox)
+    → kind ≢ 1 → kind ≢ 2 → kind ≢ 4 → kind ≢ 7 → kind ≢ 8
+    → Refused 13 ≡ alone kind at v r x
+unfolding alone
+no-other kind at v r x one two four seven eight =
+    rw (ne-eqb kind 1 one, ne-eqb kind 2 two, ne-eqb kind 4 four, ne-eqb kind 7 seven, ne-eqb kind 8 eight)
+
+ask-requires : tie.Need-ask-requires
+unfolding givesBack
+ask-requires c κs = refl
+
+ask-requires-2 : tie.Need-ask-requires-2
+unfolding givesBack
+ask-requires-2 c κs = refl
+
 returns : tie.Need-returns
 unfolding alone
-returns c = rw (c .before .match .keys1) (c .send .ensures)
+returns c = rw (c .before .match .keys1) (c .ask .ensures)
 
 returns-2 : tie.Need-returns-2
 unfolding alone
-returns-2 c = rw (c .before .match .keys2) (c .send2 .ensures)
+returns-2 c = rw (c .before .match .keys2) (c .ask2 .ensures)
 
 returns-3 : tie.Need-returns-3
 unfolding alone
 returns-3 c = rw (c .before .match .keys3) (c .hear .ensures)
 
 returns-4 : tie.Need-returns-4
-unfolding alone
-returns-4 c = rw (c .before .match .keys4) (c .send3 .ensures)
+returns-4 c = sent-back _ _ _ _ _ _ _ (omega arith) (omega arith) (c .before .returned .ensures) (c .send .ensures)
 
 returns-5 : tie.Need-returns-5
-unfolding alone
-returns-5 c = rw (c .before .match .keys5) (c .send4 .ensures)
+returns-5 c =
+    let others = c .before .match .rest in
+    no-other _ _ _ _ _ (others .0 .0 .1) (others .0 .1) (others .1) (λ z. omega (arith, z)) (λ z. omega (arith, z))
 
 returns-6 : tie.Need-returns-6
-unfolding alone
 returns-6 c =
-    let others = c .match .rest in
-    let low = others .0 .0 in
-    rw (ne-eqb _ 1 (low .0 .0 .1), ne-eqb _ 2 (low .0 .1), ne-eqb _ 4 (low .1), ne-eqb _ 7 (others .0 .1), ne-eqb _ 8 (others .1))
+    let others = c .before .before .match .rest in
+    no-other _ _ _ _ _ (others .0 .0 .1) (others .0 .1) (others .1) (λ z. omega (arith, z)) (λ z. omega (arith, z))
 
 pub alone-spec : {M : Type 1} → statement M
 alone-spec =
     tie.close
     (tie.spec
-    (λ c κs. search needs)
-    (λ c κs. search needs)
+    ask-requires
+    ask-requires-2
     (λ c κs. search needs)
     (λ c κs. search needs)
     (λ c κs. search needs)

@@ -1,8 +1,8 @@
 -- Each arm by its variant.
 use borrow.Author.Needs.{needs}
 use Rattle.rules.specs.Line.{givesBack}
-use Rattle.traincomputer.proofs.gives_back.Statement.{statement}
-use Rattle.traincomputer.proofs.gives_back.Tie as tie
+use Rattle.messages.proofs.gives_back.Statement.{statement}
+use Rattle.messages.proofs.gives_back.Tie as tie
 
 returns : tie.Need-returns
 unfolding givesBack

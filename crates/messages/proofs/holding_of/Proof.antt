@@ -1,8 +1,8 @@
 -- Each arm by its variant.
 use borrow.Author.Needs.{needs}
 use Rattle.rules.specs.Line.{holding}
-use Rattle.traincomputer.proofs.holding_of.Statement.{statement}
-use Rattle.traincomputer.proofs.holding_of.Tie as tie
+use Rattle.messages.proofs.holding_of.Statement.{statement}
+use Rattle.messages.proofs.holding_of.Tie as tie
 
 returns : tie.Need-returns
 unfolding holding

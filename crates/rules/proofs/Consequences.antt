@@ -24,7 +24,7 @@ use Rattle.rules.specs.Line.{startLine, aroundOn, around, boxAt, trainAt
 use Rattle.rules.specs.Steps.{Step, addressed, another, grantRows, boxRows, apply, reply, boxAnswers, formed, effect, step}
 use Rattle.rules.specs.Record.{answerCode}
 use Rattle.rules.specs.Safety.{TrainOf, reached}
-use Rattle.rules.specs.Invariant.{CrossesAt, crossedPoint, settled, sent, Invariant}
+use Rattle.rules.specs.Invariant.{crossedPoint, settled, sent, Invariant}
 use Rattle.rules.specs.Consequences.{AlsoHolds}
 use Rattle.rules.proofs.Tests.{facts, first-none, outside-false-iff}
 use Rattle.rules.proofs.Files.{file-iff}

@@ -25,7 +25,7 @@ use Rattle.rules.proofs.Routes.{segment-once}
 use Rattle.rules.proofs.Tests.{and-true, and-true-iff, or-left, or-right, or-false-left, or-false-right}
 use Rattle.rules.proofs.Frames.{put, holder-other, train-alone, train-back}
 use Rattle.rules.proofs.StepRows.{address-iff, lock-address-iff, granted-each}
-use Rattle.rules.proofs.Change.{ahead-box, ahead-uncrossed, Steady, no-more, uses-by, change-fits, fits, front-low, apart-still}
+use Rattle.rules.proofs.Change.{ahead-box, ahead-uncrossed, Steady, no-more, uses-by, change-fits, fits, apart-still}
 use Rattle.rules.proofs.Requesting.{next-box}
 
 or-implied : (a b c d : Bool) → (a ≡ true → c ≡ true) → (b ≡ true → d ≡ true) → (a || b) ≡ true → (c || d) ≡ true

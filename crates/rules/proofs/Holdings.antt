@@ -1,16 +1,13 @@
 -- What a train has recorded, where it records a holding and where it drops the record.
-use Prim.Native.Nat.{ℕ}
 use mathlib.Core.Path.{_≡_, refl, sym, _∙_}
 use mathlib.Core.Logic.{_≢_}
 use mathlib.Core.Bool.{Bool, true, false, not, _&&_, _||_, false≢true}
 use lib.Dec.{eqb}
 use Rattle.rules.specs.declared.Holding.{Holding}
 use Rattle.rules.specs.declared.Holding.the-variants.{NextAt, LockAt}
-use Rattle.rules.specs.declared.Request.{Request}
-use Rattle.rules.specs.declared.Request.the-variants.{Reserve, Lock, GiveBack, Unlock}
 use Rattle.rules.specs.declared.Train.{Train}
 use Rattle.rules.specs.declared.Around.{Around}
-use Rattle.rules.specs.Line.{requestBox, holding, holdingBox}
+use Rattle.rules.specs.Line.{holding}
 use Rattle.rules.specs.Steps.{addressed, recorded, withHolding, withoutHolding}
 use Rattle.rules.proofs.Tests.{facts, or-false, or-false-left, or-false-right}
 

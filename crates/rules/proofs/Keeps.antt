@@ -30,7 +30,7 @@ use Rattle.rules.proofs.SoundBoxes.{answer-code, granted-sound, sensed-
 use Rattle.rules.proofs.StepKinds.{afterSending, afterMessage, afterGrant, afterHearing, afterEnter, afterClear, Sends, Answers, Hears, Enters, Clears, Does, refuses, sends, denies, grants, hears, enters, clears}
 use Rattle.rules.proofs.StepRows.{showing, address-same, recorded-same, not-open, request-iff, enter-iff, clear-iff}
 use Rattle.rules.proofs.Settled.{line-sound, sized, Alike, around-alike, address-alike, message-alike, sending-alike, heard-alike, heard-message, settling, table-quiet, train-quiet, alike-quiet, around-quiet}
-use Rattle.rules.proofs.SettledSteps.{addressed-open, enter-idle, message-recorded, send-quiet, deny-quiet, hear-quiet, grant-quiet, grant-answers, clear-quiet, clear-free, grant-asks, enter-quiet, enter-free}
+use Rattle.rules.proofs.SettledSteps.{addressed-open, enter-idle, message-recorded, send-quiet, deny-quiet, hear-quiet, grant-quiet, grant-answers, clear-quiet, clear-free, enter-quiet, enter-free}
 use Rattle.rules.proofs.GivingSteps.{sending-unrecorded, sending-message, settled-sent, send-settled, grant-settled}
 use Rattle.rules.proofs.Change.{Steady, ahead-box, passed-box}
 use Rattle.rules.proofs.Requesting.{request-box, request-fits}

@@ -1,6 +1,6 @@
 -- What each step is on the line with messages taken away, the settled one and the atomic one.
 use Prim.Native.Nat.{ℕ}
-use mathlib.Core.Path.{_≡_, refl, sym, _∙_, ap}
+use mathlib.Core.Path.{_≡_, refl, sym, _∙_}
 use mathlib.Core.Logic.{_≢_}
 use mathlib.Core.Bool.{Bool, true, false, _&&_, _||_, false≢true}
 use mathlib.Core.List.{List}
@@ -18,14 +18,14 @@ use Rattle.rules.specs.Rows.{first}
 use Rattle.rules.specs.Track.{planAt}
 use Rattle.rules.specs.declared.Around.{Around}
 use Rattle.rules.specs.Line.{aroundOn, aroundTrain, around, boxAt, trainAt, requestBox, holding, givesBack}
-use Rattle.rules.specs.Steps.{Step, addressed, recorded, atEnd, addressRows, requestRows, boxRows, enterRows, clearRows, withMessage, withHolding, granted, sending, heard, entered, cleared}
+use Rattle.rules.specs.Steps.{Step, addressed, recorded, atEnd, addressRows, requestRows, boxRows, enterRows, clearRows, withMessage, granted, sending, heard, entered, cleared}
 use Rattle.rules.specs.Safety.{TrainOf}
 use Rattle.rules.specs.Invariant.{withTrains, Open, sent, answered, Invariant}
 use Rattle.rules.proofs.Tests.{not-passed, or-left, and-true, first-none}
 use Rattle.rules.proofs.Sound.{open-address}
 use Rattle.rules.proofs.Frames.{put}
 use Rattle.rules.proofs.StepKinds.{afterSending, afterRequest, afterMessage, afterGrant, afterHearing, afterEnter, afterClear, Sends, Answers, Hears, Enters, Clears}
-use Rattle.rules.proofs.StepRows.{address-same, recorded-same, address-iff, request-iff, lock-address-iff, enter-iff}
+use Rattle.rules.proofs.StepRows.{address-iff, request-iff, lock-address-iff, enter-iff}
 use Rattle.rules.proofs.Settled.{line-sound, Alike, message-alike, heard-message, Quiets, table-quiet, train-quiet, alike-quiet, around-quiet, box-quiet, put-quiet, same-quiet}
 
 -- The request of an open message is one that 16 and 17 do not stop.

@@ -13,7 +13,7 @@
 //! use lineengine::{check, code, run, Refusal, RoutePlace};
 //! let table = [0x4E, 0x45, 0x54, 0, 1, 1, 2, 0, 1, 2, 0, 1, 0, 0, 0, 0, 1, 0, 0, 0];
 //! let mut answers = [0; 2];
-//! assert_eq!(run(&table, &[1, 1, 1, 7, 0, 0], &mut answers), Ok(&[code::NO_SUCH_TRAIN, code::NO_SUCH_STEP][..]));
+//! assert_eq!(run(&table, &[1, 1, 1, 0, 0, 0], &mut answers), Ok(&[code::NO_SUCH_TRAIN, code::NO_SUCH_STEP][..]));
 //! assert_eq!(check(&table[..19]), Err(Refusal::Table { code: code::WRONG_TABLE_LENGTH, at: None }));
 //!
 //! // A train whose route is segment 1 and then segment 1 again.

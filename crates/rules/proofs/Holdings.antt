@@ -1,7 +1,7 @@
 -- What a train has recorded, where it records a holding and where it drops the record.
 use mathlib.Core.Path.{_≡_, refl, sym, _∙_}
 use mathlib.Core.Logic.{_≢_}
-use mathlib.Core.Bool.{Bool, true, false, not, _&&_, _||_, false≢true}
+use mathlib.Core.Bool.{Bool, true, false, not, _&&_, _||_, false≢true, or-false as or-none}
 use lib.Dec.{eqb}
 use Rattle.rules.specs.declared.Holding.{Holding}
 use Rattle.rules.specs.declared.Holding.the-variants.{NextAt, LockAt}
@@ -29,10 +29,6 @@ again-recorded : (near far n f : Bool) → (near && far) ≡ false → ((near &&
     → ((near || (not near && n)) ≡ n) × ((far || (not far && f)) ≡ f)
 again-recorded true true n f one e = absurd (false≢true (sym one))
 again-recorded true false n f one e = (sym (sym (or-none n) ∙ e), refl)
-  where
-    or-none : (n : Bool) → (n || false) ≡ n
-    or-none true = refl
-    or-none false = refl
 again-recorded false true n f one e = (refl, sym e)
 again-recorded false false n f one e = (refl, refl)
 

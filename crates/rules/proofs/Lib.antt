@@ -66,6 +66,8 @@ pub mod Moves
 pub mod Demand3
 -- Calls that begin with the record check, where it finds nothing.
 pub mod Checked
+-- No step is answered 23.
+pub mod Occupied
 -- What a train has given back is not its own until it asks for it again.
 pub mod Returned
 -- What else holds after every list of steps.

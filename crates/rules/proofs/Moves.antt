@@ -69,7 +69,7 @@ given-still : (v : Around) (p : BoxPlan) (x : SwitchBox) (h : Holding) → first
 unfolding grantRows given setHolder
 given-still v p x (NextAt b) e = unmoved refl
 given-still v p x (LockAt b) e =
-    let (passive, rest) = simp first-zero-iff at e in
+    let (unheld, (passive, rest)) = simp first-zero-iff at e in
     record { before = λ h. absurd (false≢true (sym passive ∙ h)); after = λ h. absurd (false≢true (sym passive ∙ h)) }
 
 freed-still : (v : Around) (p : BoxPlan) (x : SwitchBox) (h : Holding) → Still x (freed v p x h)

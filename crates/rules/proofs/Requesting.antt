@@ -225,7 +225,7 @@ module _ {a : Line} (h : Steady a) {i : ℕ} (k : TrainOf (a .table) i) where
   request-fits (Lock b) n e f =
       let (next, at) = address-iff (around a i) r (Lock b) .0 e in
       let (here, point) = lock-address-iff (around a i) b .0 at in
-      let (sensor, (unheld, reserved)) = simp first-zero-iff at f in
+      let (unheld, rest) = simp first-zero-iff at f in
       let free : another i (boxAt a b .lock) ≡ false = unheld in
       rw here (lock-fits next point (rw here at free))
   request-fits (GiveBack b) n e f = absurd (false≢true (sym n))

@@ -30,7 +30,7 @@ use Rattle.rules.specs.Invariant.{nearRecorded, farRecorded, lockRecorde
 use Rattle.rules.specs.Consequences.{heldFor, asksFor, someAsksFor}
 use Rattle.rules.proofs.Tests.{facts, cond-each, or-false-iff, or-true-iff, eqb-true-iff}
 use Rattle.rules.proofs.Frames.{put, box-put, every-train, every-box, train-alone, holder-other}
-use Rattle.rules.proofs.StepKinds.{afterGrant, Answers, Enters, Does, refuses, sends, denies, grants, hears, enters, clears, does, is-answer}
+use Rattle.rules.proofs.StepKinds.{afterGrant, Answers, Enters, Does, refuses, sends, denies, grants, hears, enters, clears, does, is-grant}
 use Rattle.rules.proofs.StepRows.{address-iff, lock-address-iff, granted-each, enter-iff}
 use Rattle.rules.proofs.Change.{Steady, fits}
 use Rattle.rules.proofs.Settled.{line-sound, sized, Alike, message-alike, sending-alike, heard-alike, heard-message, settling, table-quiet, around-quiet, box-quiet}
@@ -234,6 +234,6 @@ pub returned : {l : Line} → Invariant l → (s : Step) (q : Request) → s .ki
     → someAsksFor (s .train) (holding q) (events step (step l s .line) more) ≡ false
     → heldFor (lineAfter step (step l s .line) more) (s .train) (holding q) ≡ false
 returned {l} h s y kind code e gives more =
-    let (q, (w, line)) = is-answer (does l s) kind (λ n. absurd (n code)) in
+    let (q, (w, line)) = is-grant (does l s) kind code in
     let same = same-request (sym e ∙ w .sent) in
-    stays-gone (keeps l h s _ (does l s)) (rw (line code, same) (grant-gone h w (rw same at gives))) more
+    stays-gone (keeps l h s _ (does l s)) (rw (line, same) (grant-gone h w (rw same at gives))) more

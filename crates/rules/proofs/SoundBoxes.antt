@@ -30,7 +30,7 @@ unfolding answerCode first
 reserve-code b true = refl
 reserve-code b false = refl
 
-lock-code : (b : ℕ) (c d e : Bool) → answerCode (Lock b) (first (23 if c ∷ 24 if d ∷ 25 if e ∷ [])) ≡ true
+lock-code : (b : ℕ) (c d e : Bool) → answerCode (Lock b) (first (24 if c ∷ 23 if d ∷ 25 if e ∷ [])) ≡ true
 unfolding answerCode first
 lock-code b true d e = refl
 lock-code b false true e = refl

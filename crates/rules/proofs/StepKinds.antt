@@ -276,13 +276,13 @@ module _ (l : Line) (s : Step) where
       effect-ends (omega arith) (s .kind) refl form)
       .ends
 
--- Kind 3 with code 0 or 23 is a box's answer; with code 0 the request is granted.
-pub is-answer : {l : Line} {s : Step} {o : Outcome} → Does l s o → s .kind ≡ 3 → (o .code ≢ 0 → o .code ≡ 23)
-    → (q : Request) × (Answers l s q (o .code) × (o .code ≡ 0 → o .line ≡ afterGrant l (s .train) q))
-is-answer (refuses n other) kind code = absurd (other (code n))
-is-answer (sends {q} w) kind code = absurd (request-kind q 3 (omega arith) (omega arith) (sym (w .kind) ∙ kind))
-is-answer (denies {q} w n) kind code = (q, (w, λ e. absurd (n e)))
-is-answer (grants {q} w) kind code = (q, (w, λ _. refl))
-is-answer (hears w) kind code = absurd (omega (arith, w .kind))
-is-answer (enters w) kind code = absurd (omega (arith, w .kind))
-is-answer (clears w) kind code = absurd (omega (arith, w .kind))
+-- Kind 3 with code 0 is a grant.
+pub is-grant : {l : Line} {s : Step} {o : Outcome} → Does l s o → s .kind ≡ 3 → o .code ≡ 0
+    → (q : Request) × (Answers l s q 0 × (o .line ≡ afterGrant l (s .train) q))
+is-grant (refuses n other) kind code = absurd (n code)
+is-grant (sends {q} w) kind code = absurd (request-kind q 3 (omega arith) (omega arith) (sym (w .kind) ∙ kind))
+is-grant (denies w n) kind code = absurd (n code)
+is-grant (grants {q} w) kind code = (q, (w, refl))
+is-grant (hears w) kind code = absurd (omega (arith, w .kind))
+is-grant (enters w) kind code = absurd (omega (arith, w .kind))
+is-grant (clears w) kind code = absurd (omega (arith, w .kind))

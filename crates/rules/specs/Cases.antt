@@ -204,10 +204,11 @@ ring =
     ∷ 1 ∷ 2 ∷ 2 ∷ 1
     ∷ 1 ∷ 1 ∷ 2 ∷ 0 ∷ 0 ∷ 1 ∷ 1 ∷ 2 ∷ 0 ∷ 0 ∷ []
 
--- 96 segments: 31 pairs of parallel tracks between points, a segment before each pair, and two links at the end.
-unfoldable pub longTrack : ℕ → List ℕ
-longTrack k =
-    (0x4E ∷ 0x45 ∷ 0x54 ∷ 0 ∷ 1 ∷ 96 ∷ 66 ∷ k ∷ [])
+-- The head of a table with 16 trains, and 96 segments: 31 pairs of parallel tracks between points, a segment before each pair, and two
+-- links at the end.
+unfoldable pub longTrack : List ℕ
+longTrack =
+    (0x4E ∷ 0x45 ∷ 0x54 ∷ 0 ∷ 1 ∷ 96 ∷ 66 ∷ 16 ∷ [])
     ++ joinOf 31 (λ j. (2 * j - 1) ∷ (2 * j) ∷ (2 * j) ∷ (2 * j + 1) ∷ (2 * j) ∷ (2 * j + 1) ∷ [])
     ++ (63 ∷ 64 ∷ 64 ∷ 65 ∷ 65 ∷ 66 ∷ [])
     ++ (0 ∷ 1 ∷ 0 ∷ 0 ∷ 0 ∷ [])
@@ -216,12 +217,12 @@ longTrack k =
     2 ∷ (3 * j - 2) ∷ (3 * j - 1) ∷ (3 * j) ∷ 1 ∷ 2 ∷ (3 * j + 1) ∷ (3 * j - 1) ∷ (3 * j) ∷ 1 ∷ [])
     ++ (1 ∷ 94 ∷ 95 ∷ 0 ∷ 0 ∷ 1 ∷ 95 ∷ 96 ∷ 0 ∷ 0 ∷ 0 ∷ 96 ∷ 0 ∷ 0 ∷ 0 ∷ [])
 
--- A train on it whose route has 64 segments.
+-- The long track with its trains, the last of them with a route of 64 segments.
 unfoldable pub longTrain : List ℕ
 longTrain = (0 ∷ 64 ∷ []) ++ joinOf 31 (λ j. (3 * j - 2) ∷ (3 * j - 1) ∷ []) ++ (94 ∷ 95 ∷ [])
 
 unfoldable pub longLine : List ℕ
-longLine = longTrack 1 ++ longTrain
+longLine = longTrack ++ joinOf 15 (λ i. 0 ∷ 1 ∷ (3 * i) ∷ []) ++ longTrain
 
 -- A request of train i, its answer, and the answer heard.
 unfoldable pub asked : ℕ → ℕ → ℕ → List Step
@@ -268,7 +269,7 @@ paperCases =
     ∷ codeOf (tableS ++ (0 ∷ [])) gives (5 ∷ 0 ∷ 0 ∷ [])
     ∷ codeOf (take 7 tableS) gives (1 ∷ 0 ∷ 0 ∷ [])
     ∷ rewritten tableS gives tableS
-    -- n = 96 may be accepted; 97: 4.
+    -- n = 96 may be accepted, here with k = 16; 97: 4.
     ∷ codeOf longLine gives (0 ∷ 0 ∷ 0 ∷ [])
     ∷ codeOf (set longLine 5 97) gives (4 ∷ 0 ∷ 0 ∷ [])
     ∷ codeOf (set tableS 5 97) gives (4 ∷ 0 ∷ 0 ∷ [])
@@ -290,9 +291,9 @@ paperCases =
     ∷ trainAfter tableS passage 1 gives (2 ∷ 0 ∷ [])
     ∷ boxAfter tableS passage 2 gives (0 ∷ 1 ∷ 0 ∷ 0 ∷ 0 ∷ 0 ∷ [])
     ∷ boxAfter tableS passage 3 gives (0 ∷ 1 ∷ 0 ∷ 2 ∷ 1 ∷ 0 ∷ [])
-    -- A lock that another holds: 24; while the other crosses: 23.
+    -- A lock that another holds: 24, while the other crosses too (02, ticket 3).
     ∷ codeOf merging gives (0 ∷ 0 ∷ 0 ∷ [])
-    ∷ answersTo merging contest gives (0 ∷ 0 ∷ 0 ∷ 0 ∷ 0 ∷ 0 ∷ 0 ∷ 0 ∷ 0 ∷ 0 ∷ 24 ∷ 24 ∷ 0 ∷ 0 ∷ 23 ∷ 23 ∷ [])
+    ∷ answersTo merging contest gives (0 ∷ 0 ∷ 0 ∷ 0 ∷ 0 ∷ 0 ∷ 0 ∷ 0 ∷ 0 ∷ 0 ∷ 24 ∷ 24 ∷ 0 ∷ 0 ∷ 24 ∷ 24 ∷ [])
     -- A route of length 1: Enter gives 16. Clear when single: 20.
     ∷ codeOf shortRoute gives (0 ∷ 0 ∷ 0 ∷ [])
     ∷ answersTo shortRoute (stepOf 5 1 0 ∷ stepOf 6 1 0 ∷ []) gives (16 ∷ 20 ∷ [])

@@ -9,12 +9,13 @@ use Rattle.rules.specs.declared.Table.{Table}
 use Rattle.rules.specs.declared.Holding.{Holding}
 use Rattle.rules.specs.declared.Holding.the-variants.{NextAt, LockAt}
 use Rattle.rules.specs.declared.Request.{Request}
+use Rattle.rules.specs.declared.Request.the-variants.{Lock}
 use Rattle.rules.specs.declared.Message.the-variants.{Idle, Sent, Answered}
 use Rattle.rules.specs.declared.Line.{Line}
 use Rattle.rules.specs.File.{fileCode, decode}
 use Rattle.rules.specs.Track.{planAt}
-use Rattle.rules.specs.Line.{startLine, around, boxAt, trainAt, messageBox, holding, givesBack, holdingBox}
-use Rattle.rules.specs.Steps.{Step, another, stands, step}
+use Rattle.rules.specs.Line.{startLine, around, boxAt, trainAt, holding, givesBack, holdingBox}
+use Rattle.rules.specs.Steps.{Step, stands, step}
 use Rattle.rules.specs.Record.{recordFault, checkedStep}
 use Rattle.rules.specs.History.{Event, lineAfter, events, accepted}
 use Rattle.rules.specs.Safety.{TrainOf, reached, history, atomic}
@@ -39,10 +40,13 @@ pub record Consequences (t : Table) (steps : List Step) : Type 0 where
   pub sound : recordFault (reached t steps) ≡ false
   pub checkedLine : lineAfter checkedStep (startLine t) steps ≡ reached t steps
   pub checkedEvents : events checkedStep (startLine t) steps ≡ history t steps
-  -- A box says 23 only where another train holds its lock.
-  pub occupied
-      : (s : Step) → s .kind ≡ 3 → step (reached t steps) s .code ≡ 23
-      → another (s .train) (boxAt (reached t steps) (messageBox (trainAt (reached t steps) (s .train) .message)) .lock) ≡ true
+  -- No step is answered 23, neither by a box (kind 3) nor when its answer is heard (kind 4).
+  pub occupied : (s : Step) → step (reached t steps) s .code ≢ 23
+  -- Where a train is on a point, a request for its lock is answered 24.
+  pub lockTold
+      : (s : Step) (b : ℕ) → s .kind ≡ 3 → s .box ≡ 0 → TrainOf t (s .train)
+      → trainAt (reached t steps) (s .train) .message ≡ Sent (Lock b) → boxAt (reached t steps) b .sensor ≡ true
+      → step (reached t steps) s .code ≡ 24
   -- No message is open where a train enters.
   pub silent
       : (s : Step) → s .kind ≡ 5 → step (reached t steps) s .code ≡ 0 → trainAt (reached t steps) (s .train) .message ≡ Idle

@@ -6,7 +6,7 @@ use Rattle.rules.specs.Rows.{joinOf}
 use Rattle.rules.specs.File.{decode}
 use Rattle.rules.specs.Line.{emptyLine}
 use Rattle.rules.specs.Printout.{bytesOf}
-use Rattle.rules.specs.Cases.{codeOf, rewritten, trainAfter, boxAfter, printed, writtenTo, routeOf, Case, _gives_, track, tableS, parallelRoute, oneStart, ring, longTrack, longTrain}
+use Rattle.rules.specs.Cases.{codeOf, rewritten, trainAfter, boxAfter, printed, writtenTo, routeOf, Case, _gives_, track, tableS, parallelRoute, oneStart, ring, longLine}
 
 -- Two segments joined by a link, and a train with the route 1, 2.
 unfoldable pub linked : List ℕ
@@ -23,10 +23,6 @@ separate =
     ++ joinOf 48 (λ j. (2 * j - 1) ∷ (2 * j) ∷ [])
     ++ joinOf 96 (λ b. 0 ∷ ((b + 1) / 2) ∷ 0 ∷ 0 ∷ 0 ∷ [])
     ++ joinOf 16 (λ i. 0 ∷ 1 ∷ (49 - i) ∷ [])
-
--- The long track with 16 trains, the last of them with the long route.
-unfoldable pub fullLine : List ℕ
-fullLine = longTrack 16 ++ joinOf 15 (λ i. 0 ∷ 1 ∷ (3 * i) ∷ []) ++ longTrain
 
 -- A point whose right is a segment between two other boxes.
 unfoldable pub extraBranch : List ℕ
@@ -178,8 +174,7 @@ writerCases =
     ∷ writtenTo (decode (set tableS 45 5)) (replicate 3 7) gives (11 ∷ 2 ∷ 3 ∷ replicate 3 7)
     ∷ writtenTo (decode parallelRoute) [] gives (28 ∷ 1 ∷ 2 ∷ [])
     ∷ rewritten separate gives separate
-    ∷ codeOf fullLine gives (0 ∷ 0 ∷ 0 ∷ [])
-    ∷ rewritten fullLine gives fullLine
+    ∷ rewritten longLine gives longLine
     -- A route as a part of the file: the reader's code, then 14; where the part begins; its bytes.
     ∷ routeOf tableS 1 gives (0 ∷ 0 ∷ 0 ∷ 38 ∷ 1 ∷ 2 ∷ 4 ∷ [])
     ∷ routeOf tableS 2 gives (0 ∷ 0 ∷ 0 ∷ 43 ∷ 4 ∷ 3 ∷ 1 ∷ [])
@@ -194,7 +189,7 @@ writerCases =
     ∷ printed (set tableS 36 2) [] gives bytesOf "file 10\n"
     ∷ printed (set tableS 45 5) [] gives bytesOf "file 11 2 3\n"
     ∷ printed parallelRoute (6 ∷ []) gives bytesOf "file 28 1 2\n"
-    ∷ printed (set fullLine 640 97) [] gives bytesOf "file 11 16 64\n"
+    ∷ printed (set longLine 640 97) [] gives bytesOf "file 11 16 64\n"
     ∷ []
 
 unfoldable pub fileCases : List Case

@@ -11,7 +11,8 @@ use Rattle.rules.specs.declared.SwitchBox.{SwitchBox}
 use Rattle.rules.specs.declared.Train.{Train}
 use Rattle.rules.specs.declared.Line.{Line}
 use Rattle.rules.specs.File.{decode}
-use Rattle.rules.specs.Line.{startLine, emptyLine, noTrain, read, putTrain, putBox}
+use Rattle.rules.specs.Line.{startLine, emptyLine, noTrain, read, boxAt, putTrain, putBox}
+use Rattle.rules.specs.Steps.{sensed}
 use Rattle.rules.specs.Record.{checkedStep}
 use Rattle.rules.specs.Safety.{reached}
 use Rattle.rules.specs.Cases.{Question, writtenTo, checked, checkedTrain, checkedBox, checkedLine, lineNumbers, Case, _gives_, stepOf, tableS, oneStart, ring, paperCases}
@@ -189,6 +190,10 @@ asking g lock stem left =
     putBox (withTrain 0 3 1 1 g) 2
     (record { sensor = false; position = 1; lock = lock; stem = stem; left = left; right = 0 })
 
+-- A train is on box 2.
+abbrev pub sensedThere : Line → Line
+sensedThere l = putBox l 2 (sensed (boxAt l 2))
+
 abbrev pub heldByOther : Line
 heldByOther =
     putBox
@@ -231,6 +236,18 @@ madeUpCases =
     ∷ checked (asking (Sent (Reserve 2)) 0 1 1) (stepOf 3 1 0) gives (0 ∷ [])
     ∷ checked (asking (Sent (Lock 2)) 1 1 1) (stepOf 3 1 0) gives (0 ∷ [])
     ∷ checked (asking (Sent (Lock 2)) 0 0 1) (stepOf 3 1 0) gives (25 ∷ [])
+    -- 23: the sensor is active, and the lock is free or the train's own, whatever is reserved. Another's lock is 24, before 23 and 25.
+    -- The answer is on its way, and the box is as it was. A reservation is given whatever the sensor.
+    ∷ checked (sensedThere (asking (Sent (Lock 2)) 0 1 1)) (stepOf 3 1 0) gives (23 ∷ [])
+    ∷ checked (sensedThere (asking (Sent (Lock 2)) 1 1 1)) (stepOf 3 1 0) gives (23 ∷ [])
+    ∷ checked (sensedThere (asking (Sent (Lock 2)) 0 0 0)) (stepOf 3 1 0) gives (23 ∷ [])
+    ∷ checked (sensedThere (asking (Sent (Lock 2)) 2 1 1)) (stepOf 3 1 0) gives (24 ∷ [])
+    ∷ checked (sensedThere (asking (Sent (Lock 2)) 2 0 0)) (stepOf 3 1 0) gives (24 ∷ [])
+    ∷ checked (asking (Sent (Lock 2)) 2 0 0) (stepOf 3 1 0) gives (24 ∷ [])
+    ∷ checkedTrain (sensedThere (asking (Sent (Lock 2)) 0 1 1)) (stepOf 3 1 0) 1
+    gives (23 ∷ 0 ∷ 3 ∷ 1 ∷ 1 ∷ 0 ∷ 0 ∷ 0 ∷ 2 ∷ 2 ∷ 2 ∷ 23 ∷ [])
+    ∷ checkedBox (sensedThere (asking (Sent (Lock 2)) 0 1 1)) (stepOf 3 1 0) 2 gives (23 ∷ 1 ∷ 1 ∷ 0 ∷ 1 ∷ 1 ∷ 0 ∷ [])
+    ∷ checked (sensedThere (asking (Sent (Reserve 2)) 0 1 0)) (stepOf 3 1 0) gives (0 ∷ [])
     -- A give-back drops one record when it is sent; the box frees what is the train's own, and not what is another's or free; the yes
     -- to it is not recorded.
     ∷ checkedTrain (putTrain startS 1 (made 0 3 1 1 true true true Idle)) (stepOf 7 1 2) 1

@@ -1,5 +1,5 @@
 -- Cases of steps beside 01's own: for codes 13 to 22, 25 and 29 and each condition behind them, for each plausible error, for atomic
--- steps and their order, and for the printout. 23 and 24 are among 01's own, and stop atomic steps here.
+-- steps and their order, and for the printout. 24 is among 01's own, and stops atomic steps here; 23 is among `madeUpCases`.
 use Prim.Native.Nat.{ℕ}
 use mathlib.Core.List.{List, [], _∷_, _++_}
 use lib.ListN.{replicate}
@@ -172,10 +172,10 @@ atomicCases =
     ∷ atomicAnswersTo merging
     (taking ++ (stepOf 1 1 3 ∷ stepOf 1 1 4 ∷ stepOf 2 1 3 ∷ stepOf 1 2 3 ∷ stepOf 1 2 4 ∷ stepOf 2 2 3 ∷ []))
     gives ((1 ∷ 0 ∷ 0 ∷ 0 ∷ 18 ∷ 18 ∷ 18 ∷ 22 ∷ 22 ∷ 24 ∷ []) ++ takenNumbers)
-    -- A move does what kind 5 or 6 does. 23 stops while train 1 crosses.
+    -- A move does what kind 5 or 6 does. 24 stops while train 1 crosses.
     ∷ atomicAnswersTo merging (taking ++ (stepOf 5 1 0 ∷ stepOf 2 2 3 ∷ stepOf 6 1 0 ∷ []))
     gives
-    ((1 ∷ 0 ∷ 0 ∷ 0 ∷ 0 ∷ 23 ∷ 0 ∷ [])
+    ((1 ∷ 0 ∷ 0 ∷ 0 ∷ 0 ∷ 24 ∷ 0 ∷ [])
     ++ (0 ∷ 2 ∷ 2 ∷ 1 ∷ replicate 7 0)
     ++ (0 ∷ 2 ∷ 1 ∷ 1 ∷ replicate 7 0)
     ++ replicate 6 0

@@ -127,8 +127,8 @@ another i holder = not (eqb holder 0) && not (eqb holder i)
 unfoldable pub grantRows : Around → BoxPlan → SwitchBox → Holding → List Row
 grantRows v p x (NextAt b) = 22 if another (v .number) (holderOf p x (v .next)) ∷ []
 grantRows v p x (LockAt b) =
-    23 if x .sensor
-    ∷ 24 if another (v .number) (x .lock)
+    24 if another (v .number) (x .lock)
+    ∷ 23 if x .sensor
     ∷ 25 if not (eqb (holderOf p x (v .front)) (v .number) && eqb (holderOf p x (v .next)) (v .number))
     ∷ []
 

@@ -87,15 +87,15 @@ fn holds_both(v: Around, p: BoxPlan, x: SwitchBox) -> bool
     holder_of(p, x, v.next) == v.number
 }
 
-// Codes 23 to 25 of a lock, whatever the box's number.
+// Codes 24, 23 and 25 of a lock, whatever the box's number.
 fn lock_code(v: Around, p: BoxPlan, x: SwitchBox) -> u8
     ensures { λ c. ⌜ ((b : ℕ) → c ≡ first (grantRows v p x (LockAt b))) ⌝ }
 {
-    if x.sensor {
-        return 23;
-    }
     if another(v.number, x.lock) {
         return 24;
+    }
+    if x.sensor {
+        return 23;
     }
     if !holds_both(v, p, x) {
         return 25;

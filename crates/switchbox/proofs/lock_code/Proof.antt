@@ -26,8 +26,8 @@ pub lock-code-spec : {M : Type 1} → statement M
 lock-code-spec =
     tie.close
     (tie.spec
-    returns
     (λ c κs. search needs)
+    returns
     returns-2
     (λ c κs. search needs)
     returns-3

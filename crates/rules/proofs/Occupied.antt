@@ -1,0 +1,153 @@
+-- Code 23 is never told: where a train is on a point, another has its lock, and 24 comes first.
+use Prim.Native.Nat.{ℕ}
+use mathlib.Core.Path.{_≡_, refl, sym, _∙_, ap}
+use mathlib.Core.Logic.{_≢_}
+use mathlib.Core.Bool.{Bool, true, false, cond, false≢true}
+use mathlib.Core.List.{List, [], _∷_}
+use native.Mathlib.Omega.{arith}
+use Rattle.rules.specs.declared.BoxPlan.{BoxPlan}
+use Rattle.rules.specs.declared.Table.{Table}
+use Rattle.rules.specs.declared.SwitchBox.{SwitchBox}
+use Rattle.rules.specs.declared.Holding.{Holding}
+use Rattle.rules.specs.declared.Holding.the-variants.{NextAt, LockAt}
+use Rattle.rules.specs.declared.Request.{Request}
+use Rattle.rules.specs.declared.Request.the-variants.{Reserve, Lock, GiveBack, Unlock}
+use Rattle.rules.specs.declared.Message.{Message}
+use Rattle.rules.specs.declared.Message.the-variants.{Idle, Sent, Answered}
+use Rattle.rules.specs.declared.Train.{Train}
+use Rattle.rules.specs.declared.Line.{Line}
+use Rattle.rules.specs.declared.Outcome.{Outcome}
+use Rattle.rules.specs.declared.Around.{Around}
+use Rattle.rules.specs.Rows.{_if_, first}
+use Rattle.rules.specs.Line.{aroundOn, around, boxAt, trainAt, putTrain, messageBox, holding, givesBack, holdingBox, requestBox}
+use Rattle.rules.specs.Steps.{Step, another, grantRows, boxRows, apply, withMessage, entered, cleared, reply, boxAnswers, formed, concernedBox, effect, step}
+use Rattle.rules.specs.History.{lineAfter}
+use Rattle.rules.specs.Safety.{TrainOf, reached}
+use Rattle.rules.specs.Invariant.{crossedPoint, settled, Open, sent, Invariant}
+use Rattle.rules.proofs.Tests.{facts, first-none, first-hit, outside-false-iff}
+use Rattle.rules.proofs.Accepted.{Accepted}
+use Rattle.rules.proofs.Frames.{put, every-train, train-alone}
+use Rattle.rules.proofs.Steps.{step-taken}
+use Rattle.rules.proofs.StepKinds.{Answers, Does, refuses, sends, denies, grants, hears, enters, clears, does}
+use Rattle.rules.proofs.StepRows.{address-iff, lock-address-iff}
+use Rattle.rules.proofs.Change.{Steady, ahead-uncrossed}
+use Rattle.rules.proofs.Start.{start-message, start-invariant}
+use Rattle.rules.proofs.Settled.{heard-message, settling, table-quiet, around-quiet, box-quiet}
+use Rattle.rules.proofs.SettledSteps.{addressed-open}
+use Rattle.rules.proofs.GivingSteps.{sending-message}
+use Rattle.rules.proofs.Keeps.{steady, keeps}
+
+-- Where trains and boxes fit together, a point ahead of a train whose sensor is active is locked for another.
+sensed-locked : {a : Line} → Steady a → {i : ℕ} → TrainOf (a .table) i → {b : ℕ} → boxAt a b .sensor ≡ true
+    → b ≡ around a i .ahead → around a i .point ≡ true → another i (boxAt a b .lock) ≡ true
+unfolding around aroundOn another
+sensed-locked h {i} k {b} active there point =
+    let c = h .fitting .sensedCrossed b active in
+    let lock = h .fitting .fits (c .train) (c .known) b .locked (crossedPoint (c .crosses) (rw there point)) in
+    rw lock (simp facts (omega (arith, c .known .low), λ e. ahead-uncrossed h k (rw e at (c .crosses)) there))
+
+-- So it is where a train's message asks for the lock.
+asked-locked : {l : Line} → Invariant l → {i : ℕ} → TrainOf (l .table) i → (q : Request) → Open q (trainAt l i .message)
+    → {b : ℕ} → holding q ≡ LockAt b → boxAt l b .sensor ≡ true → another i (boxAt l b .lock) ≡ true
+asked-locked {l} h {i} k q asked {b} about active =
+    let (next, may) = address-iff _ _ _ .0 (addressed-open h i k q asked) in
+    let (there, point) = lock-address-iff (around l i) b .0 (rw (← about) may) in
+    let known : TrainOf (settled l .table) i = rw (table-quiet settling) k in
+    rw (box-quiet settling) at
+    (sensed-locked (steady h) known {b = b} (rw (box-quiet settling) active) (rw (around-quiet settling) there)
+    (rw (around-quiet settling) point))
+
+-- A box whose sensor is active answers a request for its lock with 24.
+pub lock-told : {l : Line} → Invariant l → (s : Step) (b : ℕ) → s .kind ≡ 3 → s .box ≡ 0 → TrainOf (l .table) (s .train)
+    → trainAt l (s .train) .message ≡ Sent (Lock b) → boxAt l b .sensor ≡ true → step l s .code ≡ 24
+unfolding effect boxAnswers reply boxRows grantRows holding givesBack concernedBox messageBox requestBox holdingBox apply formed around aroundOn
+lock-told {l} h s b kind box k asked active =
+    let form : formed (s .kind) (s .box) ≡ true = rw (kind, box) in
+    let held = asked-locked h k (Lock b) (rw asked sent) refl active in
+    ap (λ (o : Outcome). o .code) (sym (step-taken l s form (outside-false-iff _ _ .1 (k .low, k .high))))
+    ∙ rw (kind, asked) (sym (first-hit _ _ 24 held refl))
+
+-- A box that says 23 was asked for its lock, which is no other train's, and its sensor is active.
+data Blocked (v : Around) (x : SwitchBox) : Holding → Type 0 where
+  blocked : {b : ℕ} → another (v .number) (x .lock) ≡ false → x .sensor ≡ true → Blocked v x (LockAt b)
+
+only-22 : (c : Bool) → first (22 if c ∷ []) ≢ 23
+unfolding first
+only-22 true e = omega arith
+only-22 false e = omega arith
+
+only-23 : (c d e : Bool) → first (24 if c ∷ 23 if d ∷ 25 if e ∷ []) ≡ 23 → (c ≡ false) × (d ≡ true)
+unfolding first
+only-23 true d e f = absurd (omega arith)
+only-23 false true e f = (refl, refl)
+only-23 false false true f = absurd (omega arith)
+only-23 false false false f = absurd (omega arith)
+
+grant-23 : (v : Around) (p : BoxPlan) (x : SwitchBox) (h : Holding) → first (grantRows v p x h) ≡ 23 → Blocked v x h
+unfolding grantRows
+grant-23 v p x (NextAt b) e = absurd (only-22 _ e)
+grant-23 v p x (LockAt b) e = let (free, active) = only-23 _ _ _ e in blocked free active
+
+row-23 : (v : Around) (p : BoxPlan) (x : SwitchBox) (q : Request) → first (boxRows v p x q) ≡ 23 → Blocked v x (holding q)
+unfolding boxRows
+row-23 v p x q e = by (givesBack q) e
+  where
+    by : (b : Bool) → first (cond b [] (grantRows v p x (holding q))) ≡ 23 → Blocked v x (holding q)
+    by true e = absurd (omega (arith, first-none, e))
+    by false e = grant-23 v p x (holding q) e
+
+-- No box says 23.
+box-unsaid : {l : Line} → Invariant l → {s : Step} {q : Request} {c : ℕ} → Answers l s q c → c ≢ 23
+unfolding requestBox holdingBox around aroundOn
+box-unsaid {l} h {s} {q} w code = go (holding q) refl (row-23 _ _ _ q (w .code ∙ code))
+  where
+    go : (z : Holding) → holding q ≡ z → Blocked (around l (s .train)) (boxAt l (holdingBox z)) z → ⊥
+    go (LockAt b) about (blocked free active) =
+        false≢true (sym free ∙ asked-locked h (w .train) q (rw (w .sent) sent) about active)
+
+-- The message is no answer 23; and no train's is.
+Unsaid : Message → Type 0
+Unsaid Idle = Unit {0}
+Unsaid (Sent q) = Unit {0}
+Unsaid (Answered q c) = c ≢ 23
+
+abbrev Untold : Line → Type 0
+Untold l = (i : ℕ) → Unsaid (trainAt l i .message)
+
+-- Then no step is answered 23, and after it no train's is.
+module _ {l : Line} (h : Invariant l) (u : Untold l) (s : Step) where
+  never-told : (o : Outcome) → Does l s o → o .code ≢ 23
+  unfolding Unsaid
+  never-told o (refuses n other) = other
+  never-told o (sends w) = λ e. omega (arith, e)
+  never-told o (denies w n) = box-unsaid h w
+  never-told o (grants w) = λ e. omega (arith, e)
+  never-told o (hears w) = rw (w .answer) at (u (s .train))
+  never-told o (enters w) = λ e. omega (arith, e)
+  never-told o (clears w) = λ e. omega (arith, e)
+
+  both : (r : Train) (b : ℕ) (x : SwitchBox) → Unsaid (r .message) → Untold (put l (s .train) r b x)
+  both r b x m = every-train l (s .train) r b x (λ _ y. Unsaid (y .message)) m u
+
+  alone : (r : Train) → Unsaid (r .message) → Untold (putTrain l (s .train) r)
+  alone r m = rw (train-alone l (s .train) r 0) at (both r 0 (boxAt l 0) m)
+
+  keeps-untold : (o : Outcome) → Does l s o → Untold (o .line)
+  unfolding Unsaid withMessage entered cleared
+  keeps-untold o (refuses n other) = u
+  keeps-untold o (sends {q} w) = alone _ (rw (sending-message _ _ q) tt)
+  keeps-untold o (denies w n) = alone _ (box-unsaid h w)
+  keeps-untold o (grants w) = both _ _ _ (λ e. omega (arith, e))
+  keeps-untold o (hears {q} {c} w) = alone _ (rw (heard-message _ _ q c) tt)
+  keeps-untold o (enters w) = both _ _ _ (u (s .train))
+  keeps-untold o (clears w) = both _ _ _ (u (s .train))
+
+-- And so after every list of steps; on a start line no train has a message.
+after-steps : {l : Line} → Invariant l → Untold l → (steps : List Step) (s : Step) → step (lineAfter step l steps) s .code ≢ 23
+unfolding lineAfter
+after-steps {l} h u [] s = never-told h u s _ (does l s)
+after-steps {l} h u (x ∷ rest) s = after-steps (keeps l h x _ (does l x)) (keeps-untold h u x _ (does l x)) rest s
+
+pub occupied : {t : Table} → Accepted t → (steps : List Step) (s : Step) → step (reached t steps) s .code ≢ 23
+unfolding Unsaid
+occupied {t} a = after-steps (start-invariant t a) (λ i. rw (start-message t a i) tt)

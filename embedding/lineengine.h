@@ -40,8 +40,8 @@ extern "C" {
 /* The version of this interface. The second number grows when something is added and every program that was right stays right,
  * but for steps of kinds that were answered 13: these may be given a meaning. The first grows, and the second is 0 again, when a
  * name, a parameter, a code, a size or a promise changes. This is not the version in the head of a table. */
-#define LINEENGINE_VERSION_MAJOR 2
-#define LINEENGINE_VERSION_MINOR 1
+#define LINEENGINE_VERSION_MAJOR 3
+#define LINEENGINE_VERSION_MINOR 0
 
 /* The bytes of stack that are enough for any call. */
 #define LINEENGINE_STACK 65536
@@ -81,8 +81,8 @@ enum lineengine_code {
 
     /* A box says no to a train; only in `answers`, when the box answers and when the train hears. */
     LINEENGINE_SEGMENT_RESERVED = 22,      /* the segment is reserved for another train */
-    LINEENGINE_POINT_OCCUPIED = 23,        /* a train is on the point */
-    LINEENGINE_POINT_LOCKED = 24,          /* the point is locked for another train */
+    LINEENGINE_POINT_LOCKED = 24,          /* the point is locked for another train, which may be on it */
+    LINEENGINE_POINT_OCCUPIED = 23,        /* a train is on the point, with no other train's lock; no function here answers this */
     LINEENGINE_POINT_NOT_RESERVED = 25,    /* a segment that the point is to join is not reserved for this train */
 
     LINEENGINE_BUFFER_TOO_SHORT = 26,      /* a buffer has less room than the call needs */

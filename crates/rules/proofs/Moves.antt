@@ -20,9 +20,9 @@ use Rattle.rules.specs.Line.{boxAt, trainAt, putTrain, setHolder, holdin
 use Rattle.rules.specs.Steps.{Step, grantRows, boxRows, given, freed, granted, entered, sensed, cleared, released}
 use Rattle.rules.specs.History.{Event, _answered_, Place, accepted, moved}
 use Rattle.rules.specs.Safety.{TrainOf, Fixed, placeIn, placeOf}
-use Rattle.rules.proofs.Tests.{facts, not-passed, first-zero-iff}
+use Rattle.rules.proofs.Tests.{facts, not-passed}
 use Rattle.rules.proofs.Frames.{put, Sized, table-put, routes-put, train-put, train-other, box-other, every-train, every-box, train-back, train-alone}
-use Rattle.rules.proofs.StepRows.{granted-each}
+use Rattle.rules.proofs.StepRows.{lock-grant-iff, granted-each}
 use Rattle.rules.proofs.Settled.{Alike, message-alike, sending-alike, heard-alike}
 use Rattle.rules.proofs.StepKinds.{request-kind, Does, refuses, sends, denies, grants, hears, enters, clears}
 
@@ -66,10 +66,10 @@ unmoved e = record { before = λ _. e; after = λ _. e }
 
 -- A box that grants a request: row 23 stops a lock where the sensor is active.
 given-still : (v : Around) (p : BoxPlan) (x : SwitchBox) (h : Holding) → first (grantRows v p x h) ≡ 0 → Still x (given v p x h)
-unfolding grantRows given setHolder
+unfolding given setHolder
 given-still v p x (NextAt b) e = unmoved refl
 given-still v p x (LockAt b) e =
-    let (unheld, (passive, rest)) = simp first-zero-iff at e in
+    let (_, (passive, _)) = lock-grant-iff v p x b .0 e in
     record { before = λ h. absurd (false≢true (sym passive ∙ h)); after = λ h. absurd (false≢true (sym passive ∙ h)) }
 
 freed-still : (v : Around) (p : BoxPlan) (x : SwitchBox) (h : Holding) → Still x (freed v p x h)

@@ -2,14 +2,11 @@
 use Prim.Native.Nat.{ℕ}
 use mathlib.Core.Path.{_≡_, refl, sym, _∙_, ap}
 use mathlib.Core.Logic.{_≢_}
-use mathlib.Core.Bool.{Bool, true, false, cond, false≢true}
+use mathlib.Core.Bool.{Bool, true, false, false≢true}
 use mathlib.Core.List.{List, [], _∷_}
 use native.Mathlib.Omega.{arith}
-use Rattle.rules.specs.declared.BoxPlan.{BoxPlan}
 use Rattle.rules.specs.declared.Table.{Table}
 use Rattle.rules.specs.declared.SwitchBox.{SwitchBox}
-use Rattle.rules.specs.declared.Holding.{Holding}
-use Rattle.rules.specs.declared.Holding.the-variants.{NextAt, LockAt}
 use Rattle.rules.specs.declared.Request.{Request}
 use Rattle.rules.specs.declared.Request.the-variants.{Reserve, Lock, GiveBack, Unlock}
 use Rattle.rules.specs.declared.Message.{Message}
@@ -17,14 +14,14 @@ use Rattle.rules.specs.declared.Message.the-variants.{Idle, Sent, Answer
 use Rattle.rules.specs.declared.Train.{Train}
 use Rattle.rules.specs.declared.Line.{Line}
 use Rattle.rules.specs.declared.Outcome.{Outcome}
-use Rattle.rules.specs.declared.Around.{Around}
 use Rattle.rules.specs.Rows.{_if_, first}
+use Rattle.rules.specs.Track.{planAt}
 use Rattle.rules.specs.Line.{aroundOn, around, boxAt, trainAt, putTrain, messageBox, holding, givesBack, holdingBox, requestBox}
 use Rattle.rules.specs.Steps.{Step, another, grantRows, boxRows, apply, withMessage, entered, cleared, reply, boxAnswers, formed, concernedBox, effect, step}
 use Rattle.rules.specs.History.{lineAfter}
 use Rattle.rules.specs.Safety.{TrainOf, reached}
-use Rattle.rules.specs.Invariant.{crossedPoint, settled, Open, sent, Invariant}
-use Rattle.rules.proofs.Tests.{facts, first-none, first-hit, outside-false-iff}
+use Rattle.rules.specs.Invariant.{crossedPoint, settled, sent, Invariant}
+use Rattle.rules.proofs.Tests.{facts, first-none, first-hit, EachCode, each-code, outside-false-iff}
 use Rattle.rules.proofs.Accepted.{Accepted}
 use Rattle.rules.proofs.Frames.{put, every-train, train-alone}
 use Rattle.rules.proofs.Steps.{step-taken}
@@ -46,12 +43,13 @@ sensed-locked h {i} k {b} active there point =
     let lock = h .fitting .fits (c .train) (c .known) b .locked (crossedPoint (c .crosses) (rw there point)) in
     rw lock (simp facts (omega (arith, c .known .low), λ e. ahead-uncrossed h k (rw e at (c .crosses)) there))
 
--- So it is where a train's message asks for the lock.
-asked-locked : {l : Line} → Invariant l → {i : ℕ} → TrainOf (l .table) i → (q : Request) → Open q (trainAt l i .message)
-    → {b : ℕ} → holding q ≡ LockAt b → boxAt l b .sensor ≡ true → another i (boxAt l b .lock) ≡ true
-asked-locked {l} h {i} k q asked {b} about active =
-    let (next, may) = address-iff _ _ _ .0 (addressed-open h i k q asked) in
-    let (there, point) = lock-address-iff (around l i) b .0 (rw (← about) may) in
+-- So it is where a train has asked for the lock.
+asked-locked : {l : Line} → Invariant l → {i : ℕ} → TrainOf (l .table) i → {b : ℕ} → trainAt l i .message ≡ Sent (Lock b)
+    → boxAt l b .sensor ≡ true → another i (boxAt l b .lock) ≡ true
+unfolding holding
+asked-locked {l} h {i} k {b} asked active =
+    let (next, may) = address-iff _ _ (Lock b) .0 (addressed-open h i k (Lock b) (rw asked sent)) in
+    let (there, point) = lock-address-iff (around l i) b .0 may in
     let known : TrainOf (settled l .table) i = rw (table-quiet settling) k in
     rw (box-quiet settling) at
     (sensed-locked (steady h) known {b = b} (rw (box-quiet settling) active) (rw (around-quiet settling) there)
@@ -63,47 +61,28 @@ pub lock-told : {l : Line} → Invariant l → (s : Step) (b : ℕ) → s .kind 
 unfolding effect boxAnswers reply boxRows grantRows holding givesBack concernedBox messageBox requestBox holdingBox apply formed around aroundOn
 lock-told {l} h s b kind box k asked active =
     let form : formed (s .kind) (s .box) ≡ true = rw (kind, box) in
-    let held = asked-locked h k (Lock b) (rw asked sent) refl active in
     ap (λ (o : Outcome). o .code) (sym (step-taken l s form (outside-false-iff _ _ .1 (k .low, k .high))))
-    ∙ rw (kind, asked) (sym (first-hit _ _ 24 held refl))
+    ∙ rw (kind, asked) (sym (first-hit _ _ 24 (asked-locked h k asked active) refl))
 
--- A box that says 23 was asked for its lock, which is no other train's, and its sensor is active.
-data Blocked (v : Around) (x : SwitchBox) : Holding → Type 0 where
-  blocked : {b : ℕ} → another (v .number) (x .lock) ≡ false → x .sensor ≡ true → Blocked v x (LockAt b)
-
-only-22 : (c : Bool) → first (22 if c ∷ []) ≢ 23
+-- So no box says 23.
+locked-first : (c d e : Bool) → (d ≡ true → c ≡ true) → first (24 if c ∷ 23 if d ∷ 25 if e ∷ []) ≢ 23
 unfolding first
-only-22 true e = omega arith
-only-22 false e = omega arith
+locked-first true d e h f = omega arith
+locked-first false true e h f = false≢true (h refl)
+locked-first false false true h f = omega arith
+locked-first false false false h f = omega arith
 
-only-23 : (c d e : Bool) → first (24 if c ∷ 23 if d ∷ 25 if e ∷ []) ≡ 23 → (c ≡ false) × (d ≡ true)
-unfolding first
-only-23 true d e f = absurd (omega arith)
-only-23 false true e f = (refl, refl)
-only-23 false false true f = absurd (omega arith)
-only-23 false false false f = absurd (omega arith)
-
-grant-23 : (v : Around) (p : BoxPlan) (x : SwitchBox) (h : Holding) → first (grantRows v p x h) ≡ 23 → Blocked v x h
-unfolding grantRows
-grant-23 v p x (NextAt b) e = absurd (only-22 _ e)
-grant-23 v p x (LockAt b) e = let (free, active) = only-23 _ _ _ e in blocked free active
-
-row-23 : (v : Around) (p : BoxPlan) (x : SwitchBox) (q : Request) → first (boxRows v p x q) ≡ 23 → Blocked v x (holding q)
-unfolding boxRows
-row-23 v p x q e = by (givesBack q) e
-  where
-    by : (b : Bool) → first (cond b [] (grantRows v p x (holding q))) ≡ 23 → Blocked v x (holding q)
-    by true e = absurd (omega (arith, first-none, e))
-    by false e = grant-23 v p x (holding q) e
-
--- No box says 23.
 box-unsaid : {l : Line} → Invariant l → {s : Step} {q : Request} {c : ℕ} → Answers l s q c → c ≢ 23
-unfolding requestBox holdingBox around aroundOn
-box-unsaid {l} h {s} {q} w code = go (holding q) refl (row-23 _ _ _ q (w .code ∙ code))
+unfolding EachCode boxRows grantRows holding givesBack requestBox holdingBox around aroundOn
+box-unsaid {l} h {s} {q} w code = by q (w .sent) (w .code ∙ code)
   where
-    go : (z : Holding) → holding q ≡ z → Blocked (around l (s .train)) (boxAt l (holdingBox z)) z → ⊥
-    go (LockAt b) about (blocked free active) =
-        false≢true (sym free ∙ asked-locked h (w .train) q (rw (w .sent) sent) about active)
+    by : (q : Request) → trainAt l (s .train) .message ≡ Sent q
+        → first (boxRows (around l (s .train)) (planAt (l .table) (requestBox q)) (boxAt l (requestBox q)) q) ≢ 23
+    by (Reserve b) asked =
+        each-code (λ c. c ≢ 23) (boxRows (around l (s .train)) (planAt (l .table) b) (boxAt l b) (Reserve b)) (omega arith, omega arith)
+    by (Lock b) asked = locked-first _ _ _ (asked-locked h (w .train) asked)
+    by (GiveBack b) asked = λ e. omega (arith, first-none, e)
+    by (Unlock b) asked = λ e. omega (arith, first-none, e)
 
 -- The message is no answer 23; and no train's is.
 Unsaid : Message → Type 0

@@ -27,7 +27,7 @@ use Rattle.rules.proofs.Tests.{first-zero-iff, or-true-iff, eqb-true-if
 use Rattle.rules.proofs.Frames.{put, holder-set, holder-other}
 use Rattle.rules.proofs.Sound.{Placed}
 use Rattle.rules.proofs.StepKinds.{afterRequest}
-use Rattle.rules.proofs.StepRows.{another-false-iff, address-iff, lock-address-iff}
+use Rattle.rules.proofs.StepRows.{another-false-iff, address-iff, lock-address-iff, lock-grant-iff}
 use Rattle.rules.proofs.Change.{ahead-box, Steady, no-more, uses-by, change-fits, fits, on-route, front-low, apart-still}
 
 -- The box of a request is one of the table. A reservation's box lists next.
@@ -225,8 +225,7 @@ module _ {a : Line} (h : Steady a) {i : ℕ} (k : TrainOf (a .table) i) where
   request-fits (Lock b) n e f =
       let (next, at) = address-iff (around a i) r (Lock b) .0 e in
       let (here, point) = lock-address-iff (around a i) b .0 at in
-      let (unheld, rest) = simp first-zero-iff at f in
-      let free : another i (boxAt a b .lock) ≡ false = unheld in
+      let (free, _) = lock-grant-iff (around a i) (planAt t b) (boxAt a b) b .0 f in
       rw here (lock-fits next point (rw here at free))
   request-fits (GiveBack b) n e f = absurd (false≢true (sym n))
   request-fits (Unlock b) n e f = absurd (false≢true (sym n))

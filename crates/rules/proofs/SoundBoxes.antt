@@ -1,8 +1,8 @@
 -- A box stays sound at a grant, an Enter and a Clear, and its answers have its codes.
 use Prim.Native.Nat.{ℕ, _≤_}
 use mathlib.Core.Path.{_≡_, refl}
-use mathlib.Core.Bool.{Bool, true, false, cond}
-use mathlib.Core.List.{List, [], _∷_}
+use mathlib.Core.Bool.{true, false, cond}
+use mathlib.Core.List.{List}
 use native.Mathlib.Omega.{arith}
 use lib.Dec.{eqb}
 use Rattle.rules.specs.declared.BoxPlan.{BoxPlan}
@@ -13,43 +13,27 @@ use Rattle.rules.specs.declared.Holding.the-variants.{NextAt, LockAt}
 use Rattle.rules.specs.declared.Request.{Request}
 use Rattle.rules.specs.declared.Request.the-variants.{Reserve, Lock, GiveBack, Unlock}
 use Rattle.rules.specs.declared.Train.{Train}
-use Rattle.rules.specs.Rows.{_if_, first}
+use Rattle.rules.specs.Rows.{first}
 use Rattle.rules.specs.Track.{planAt, isPoint}
 use Rattle.rules.specs.declared.Around.{Around}
 use Rattle.rules.specs.Line.{aroundOn, aroundTrain, requestBox, setHolder, holding, givesBack, holdingBox}
 use Rattle.rules.specs.Steps.{addressRows, addressed, grantRows, boxRows, lockGiven, given, freed, granted, sensed, released}
 use Rattle.rules.specs.Record.{answerCode}
-use Rattle.rules.proofs.Tests.{cond-each}
+use Rattle.rules.proofs.Tests.{cond-each, EachCode, each-code}
 use Rattle.rules.proofs.Boxes.{position-fits}
 use Rattle.rules.proofs.Sound.{BoxSound}
 use Rattle.rules.proofs.StepRows.{address-iff, lock-address-iff, granted-each}
 
 -- A box's answer has one of its codes.
-reserve-code : (b : ℕ) (c : Bool) → answerCode (Reserve b) (first (22 if c ∷ [])) ≡ true
-unfolding answerCode first
-reserve-code b true = refl
-reserve-code b false = refl
-
-lock-code : (b : ℕ) (c d e : Bool) → answerCode (Lock b) (first (24 if c ∷ 23 if d ∷ 25 if e ∷ [])) ≡ true
-unfolding answerCode first
-lock-code b true d e = refl
-lock-code b false true e = refl
-lock-code b false false true = refl
-lock-code b false false false = refl
-
-yes-code : (q : Request) → answerCode q (first []) ≡ true
-unfolding answerCode first
-yes-code (Reserve b) = refl
-yes-code (Lock b) = refl
-yes-code (GiveBack b) = refl
-yes-code (Unlock b) = refl
-
 pub answer-code : (v : Around) (p : BoxPlan) (x : SwitchBox) (q : Request) → answerCode q (first (boxRows v p x q)) ≡ true
-unfolding boxRows grantRows holding givesBack
-answer-code v p x (Reserve b) = reserve-code b _
-answer-code v p x (Lock b) = lock-code b _ _ _
-answer-code v p x (GiveBack b) = yes-code (GiveBack b)
-answer-code v p x (Unlock b) = yes-code (Unlock b)
+unfolding EachCode boxRows grantRows holding givesBack answerCode
+answer-code v p x q = each-code (λ c. answerCode q c ≡ true) (boxRows v p x q) (by q)
+  where
+    by : (q : Request) → EachCode (λ c. answerCode q c ≡ true) (boxRows v p x q)
+    by (Reserve b) = (refl, refl)
+    by (Lock b) = (refl, (refl, (refl, refl)))
+    by (GiveBack b) = refl
+    by (Unlock b) = refl
 
 -- Boxes after a grant, an Enter and a Clear.
 module _ {k : ℕ} {p : BoxPlan} {x : SwitchBox} (h : BoxSound k p x) where

@@ -16,8 +16,8 @@ use Rattle.rules.specs.declared.Message.the-variants.{Idle, Sent, Answer
 use Rattle.rules.specs.declared.Train.{Train}
 use Rattle.rules.specs.Rows.{_if_, first}
 use Rattle.rules.specs.declared.Around.{Around}
-use Rattle.rules.specs.Line.{aroundOn, aroundTrain, holding, givesBack}
-use Rattle.rules.specs.Steps.{isOpen, addressed, recorded, atEnd, addressRows, recordRows, requestRows, stands, given, freed, granted, enterRows, clearRows, another}
+use Rattle.rules.specs.Line.{aroundOn, aroundTrain, holderOf, holding, givesBack}
+use Rattle.rules.specs.Steps.{isOpen, addressed, recorded, atEnd, addressRows, recordRows, requestRows, stands, given, freed, granted, enterRows, clearRows, another, grantRows}
 use Rattle.rules.specs.Invariant.{Open, sent, answered}
 use Rattle.rules.proofs.Tests.{facts, cond-each, implies-iff, first-none, first-zero-iff}
 
@@ -102,6 +102,18 @@ module _ (t : Table) (routes : List ℕ) (i : ℕ) (r : Train) (covered : ℕ) (
 pub lock-address-iff : (v : Around) (b : ℕ) → (addressed v (LockAt b) ≡ true) ↔ ((b ≡ v .ahead) × (v .point ≡ true))
 unfolding addressed
 lock-address-iff v b = simp facts Iff·rfl
+
+-- A box gives its lock: it is nobody else's, no train is on the box, and front and next are the train's there.
+pub lock-grant-iff : (v : Around) (p : BoxPlan) (x : SwitchBox) (b : ℕ)
+    → (first (grantRows v p x (LockAt b)) ≡ 0)
+    ↔ ((another (v .number) (x .lock) ≡ false)
+    × ((x .sensor ≡ false) × ((holderOf p x (v .front) ≡ v .number) × (holderOf p x (v .next) ≡ v .number))))
+unfolding grantRows
+lock-grant-iff v p x b =
+    simp (facts, first-zero-iff, first-none) (
+      λ (unheld, (passive, (both, none))). (unheld, (passive, both)),
+      λ (unheld, (passive, both)). (unheld, (passive, (both, refl))),
+    )
 
 -- What holds of a box with what is asked for given to the train, of one with what was the train's freed, and of the box as it was,
 -- holds of it after its yes.

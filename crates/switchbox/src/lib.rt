@@ -91,7 +91,8 @@ fn holds_both(v: Around, p: BoxPlan, x: SwitchBox) -> bool
 fn lock_code(v: Around, p: BoxPlan, x: SwitchBox) -> u8
     ensures { λ c. ⌜ ((b : ℕ) → c ≡ first (grantRows v p x (LockAt b))) ⌝ }
 {
-    if another(v.number, x.lock) {
+    let locked = another(v.number, x.lock);
+    if locked {
         return 24;
     }
     if x.sensor {

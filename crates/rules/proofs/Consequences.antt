@@ -1,6 +1,6 @@
 -- What else holds after every list of steps.
 use Prim.Native.Nat.{ℕ}
-use mathlib.Core.Path.{_≡_, sym, _∙_, ap}
+use mathlib.Core.Path.{_≡_, sym, _∙_}
 use mathlib.Core.Bool.{true, false≢true}
 use native.Mathlib.Omega.{arith}
 use borrow.Author.Tests.{eqb-true}
@@ -14,15 +14,15 @@ use Rattle.rules.specs.declared.Outcome.{Outcome}
 use Rattle.rules.specs.File.{decode}
 use Rattle.rules.specs.declared.Around.{Around}
 use Rattle.rules.specs.Line.{startLine, trainAt, givesBack}
-use Rattle.rules.specs.Steps.{Step, boxRows, apply, reply, boxAnswers, formed, effect, step}
+use Rattle.rules.specs.Steps.{Step, boxRows, step}
 use Rattle.rules.specs.Record.{answerCode}
 use Rattle.rules.specs.Safety.{TrainOf, reached}
 use Rattle.rules.specs.Invariant.{Invariant}
 use Rattle.rules.specs.Consequences.{AlsoHolds}
-use Rattle.rules.proofs.Tests.{first-none, outside-false-iff}
+use Rattle.rules.proofs.Tests.{first-none}
 use Rattle.rules.proofs.Files.{file-iff}
 use Rattle.rules.proofs.Sound.{MessageSound, answering}
-use Rattle.rules.proofs.Steps.{step-taken}
+use Rattle.rules.proofs.Steps.{box-says}
 use Rattle.rules.proofs.StepKinds.{request-kind, Does, refuses, sends, denies, grants, hears, enters, clears, does}
 use Rattle.rules.proofs.Settled.{line-sound}
 use Rattle.rules.proofs.SettledSteps.{enter-idle}
@@ -30,7 +30,7 @@ use Rattle.rules.proofs.Moves.{other-trains, other-boxes}
 use Rattle.rules.proofs.Checked.{checked-line, checked-events}
 use Rattle.rules.proofs.Occupied.{lock-told, occupied}
 use Rattle.rules.proofs.Returned.{returned}
-use Rattle.rules.proofs.Demand3.{invariant-after, line-fixed, same-atomic}
+use Rattle.rules.proofs.Demand3.{invariant-after, same-atomic, line-fixed, sensed-there}
 
 -- A train enters only where it has no message.
 silent : {l : Line} → Invariant l → (s : Step) (o : Outcome) → Does l s o → s .kind ≡ 5 → o .code ≡ 0
@@ -46,10 +46,8 @@ silent h s o (clears w) kind code = absurd (omega arith)
 -- A box answers a give-back with 0, and no other answer to it is on its way.
 answered-yes : (l : Line) (s : Step) (q : Request) → s .kind ≡ 3 → s .box ≡ 0 → TrainOf (l .table) (s .train)
     → trainAt l (s .train) .message ≡ Sent q → givesBack q ≡ true → step l s .code ≡ 0
-unfolding effect boxAnswers reply boxRows apply formed
-answered-yes l s q kind box k asked gives =
-    let form : formed (s .kind) (s .box) ≡ true = rw (kind, box) in
-    ap (λ (o : Outcome). o .code) (sym (step-taken l s form (outside-false-iff _ _ .1 (k .low, k .high)))) ∙ rw (kind, asked, gives) first-none
+unfolding boxRows
+answered-yes l s q kind box k asked gives = box-says l s q kind box k asked ∙ rw gives first-none
 
 zero-answer : (q : Request) (c : ℕ) → givesBack q ≡ true → answerCode q c ≡ true → c ≡ 0
 unfolding givesBack answerCode
@@ -81,7 +79,7 @@ consequences bytes e steps =
       checkedLine = checked-line (startLine t) (λ z. after z .sound) steps;
       checkedEvents = checked-events (startLine t) (λ z. after z .sound) steps;
       occupied = occupied a steps;
-      lockTold = λ s b kind box k. lock-told h s b kind box (known (s .train) k);
+      lockTold = λ i q b k c s kind box u asked. lock-told h s b kind box (known (s .train) u) asked (sensed-there a steps k c);
       silent = λ s. silent h s _ (does (reached t steps) s);
       atomicLine = same-atomic a steps;
       answeredYes = λ s q kind box k. answered-yes (reached t steps) s q kind box (known (s .train) k);

@@ -167,7 +167,7 @@ module _ {t : Table} (a : Accepted t) where
     crosses {i} k c = crosses-on (quiet-fixed settling line-fixed) k (quiet-placed settling i k) c
 
     -- Crossed boxes are sensed, and the atomic line has the same boxes.
-    sensed-there : {i : ℕ} → TrainOf t i → {q b : ℕ} → CrossesBox t i (whereIs t steps i) q b
+    pub sensed-there : {i : ℕ} → TrainOf t i → {q b : ℕ} → CrossesBox t i (whereIs t steps i) q b
         → boxAt (reached t steps) b .sensor ≡ true
     sensed-there {i} k {q} {b} c =
         rw (box-quiet settling) at (invariant-after .fitting .fits i (known k) b .sensed q (crosses k c))

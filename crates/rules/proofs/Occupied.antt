@@ -1,6 +1,7 @@
--- Code 23 is never told: where a train is on a point, another has its lock, and 24 comes first.
+-- No step is answered 23: a point that a train crosses is locked for that train, so that another's request for the lock has 24, which comes
+-- first.
 use Prim.Native.Nat.{ℕ}
-use mathlib.Core.Path.{_≡_, refl, sym, _∙_, ap}
+use mathlib.Core.Path.{_≡_, refl, sym, _∙_}
 use mathlib.Core.Logic.{_≢_}
 use mathlib.Core.Bool.{Bool, true, false, false≢true}
 use mathlib.Core.List.{List, [], _∷_}
@@ -16,15 +17,15 @@ use Rattle.rules.specs.declared.Line.{Line}
 use Rattle.rules.specs.declared.Outcome.{Outcome}
 use Rattle.rules.specs.Rows.{_if_, first}
 use Rattle.rules.specs.Track.{planAt}
-use Rattle.rules.specs.Line.{aroundOn, around, boxAt, trainAt, putTrain, messageBox, holding, givesBack, holdingBox, requestBox}
-use Rattle.rules.specs.Steps.{Step, another, grantRows, boxRows, apply, withMessage, entered, cleared, reply, boxAnswers, formed, concernedBox, effect, step}
+use Rattle.rules.specs.Line.{aroundOn, around, boxAt, trainAt, putTrain, holding, givesBack, holdingBox, requestBox}
+use Rattle.rules.specs.Steps.{Step, another, grantRows, boxRows, withMessage, entered, cleared, step}
 use Rattle.rules.specs.History.{lineAfter}
 use Rattle.rules.specs.Safety.{TrainOf, reached}
 use Rattle.rules.specs.Invariant.{crossedPoint, settled, sent, Invariant}
-use Rattle.rules.proofs.Tests.{facts, first-none, first-hit, EachCode, each-code, outside-false-iff}
+use Rattle.rules.proofs.Tests.{facts, first-none, first-hit, EachCode, each-code}
 use Rattle.rules.proofs.Accepted.{Accepted}
 use Rattle.rules.proofs.Frames.{put, every-train, train-alone}
-use Rattle.rules.proofs.Steps.{step-taken}
+use Rattle.rules.proofs.Steps.{box-says}
 use Rattle.rules.proofs.StepKinds.{Answers, Does, refuses, sends, denies, grants, hears, enters, clears, does}
 use Rattle.rules.proofs.StepRows.{address-iff, lock-address-iff}
 use Rattle.rules.proofs.Change.{Steady, ahead-uncrossed}
@@ -55,16 +56,14 @@ asked-locked {l} h {i} k {b} asked active =
     (sensed-locked (steady h) known {b = b} (rw (box-quiet settling) active) (rw (around-quiet settling) there)
     (rw (around-quiet settling) point))
 
--- A box whose sensor is active answers a request for its lock with 24.
+-- Its box answers with 24.
 pub lock-told : {l : Line} → Invariant l → (s : Step) (b : ℕ) → s .kind ≡ 3 → s .box ≡ 0 → TrainOf (l .table) (s .train)
     → trainAt l (s .train) .message ≡ Sent (Lock b) → boxAt l b .sensor ≡ true → step l s .code ≡ 24
-unfolding effect boxAnswers reply boxRows grantRows holding givesBack concernedBox messageBox requestBox holdingBox apply formed around aroundOn
+unfolding boxRows grantRows holding givesBack requestBox holdingBox around aroundOn
 lock-told {l} h s b kind box k asked active =
-    let form : formed (s .kind) (s .box) ≡ true = rw (kind, box) in
-    ap (λ (o : Outcome). o .code) (sym (step-taken l s form (outside-false-iff _ _ .1 (k .low, k .high))))
-    ∙ rw (kind, asked) (sym (first-hit _ _ 24 (asked-locked h k asked active) refl))
+    box-says l s (Lock b) kind box k asked ∙ sym (first-hit _ _ 24 (asked-locked h k asked active) refl)
 
--- So no box says 23.
+-- Rows in which 24 applies wherever 23 does have another code than 23. So no box says 23.
 locked-first : (c d e : Bool) → (d ≡ true → c ≡ true) → first (24 if c ∷ 23 if d ∷ 25 if e ∷ []) ≢ 23
 unfolding first
 locked-first true d e h f = omega arith
@@ -72,9 +71,9 @@ locked-first false true e h f = false≢true (h refl)
 locked-first false false true h f = omega arith
 locked-first false false false h f = omega arith
 
-box-unsaid : {l : Line} → Invariant l → {s : Step} {q : Request} {c : ℕ} → Answers l s q c → c ≢ 23
+box-not-23 : {l : Line} → Invariant l → {s : Step} {q : Request} {c : ℕ} → Answers l s q c → c ≢ 23
 unfolding EachCode boxRows grantRows holding givesBack requestBox holdingBox around aroundOn
-box-unsaid {l} h {s} {q} w code = by q (w .sent) (w .code ∙ code)
+box-not-23 {l} h {s} {q} w code = by q (w .sent) (w .code ∙ code)
   where
     by : (q : Request) → trainAt l (s .train) .message ≡ Sent q
         → first (boxRows (around l (s .train)) (planAt (l .table) (requestBox q)) (boxAt l (requestBox q)) q) ≢ 23
@@ -84,49 +83,49 @@ box-unsaid {l} h {s} {q} w code = by q (w .sent) (w .code ∙ code)
     by (GiveBack b) asked = λ e. omega (arith, first-none, e)
     by (Unlock b) asked = λ e. omega (arith, first-none, e)
 
--- The message is no answer 23; and no train's is.
-Unsaid : Message → Type 0
-Unsaid Idle = Unit {0}
-Unsaid (Sent q) = Unit {0}
-Unsaid (Answered q c) = c ≢ 23
+-- The message is no answer 23; no train of the line has such an answer on its way.
+Not23 : Message → Type 0
+Not23 Idle = Unit {0}
+Not23 (Sent q) = Unit {0}
+Not23 (Answered q c) = c ≢ 23
 
-abbrev Untold : Line → Type 0
-Untold l = (i : ℕ) → Unsaid (trainAt l i .message)
+abbrev None23 : Line → Type 0
+None23 l = (i : ℕ) → Not23 (trainAt l i .message)
 
--- Then no step is answered 23, and after it no train's is.
-module _ {l : Line} (h : Invariant l) (u : Untold l) (s : Step) where
-  never-told : (o : Outcome) → Does l s o → o .code ≢ 23
-  unfolding Unsaid
-  never-told o (refuses n other) = other
-  never-told o (sends w) = λ e. omega (arith, e)
-  never-told o (denies w n) = box-unsaid h w
-  never-told o (grants w) = λ e. omega (arith, e)
-  never-told o (hears w) = rw (w .answer) at (u (s .train))
-  never-told o (enters w) = λ e. omega (arith, e)
-  never-told o (clears w) = λ e. omega (arith, e)
+-- Then no step is answered 23, and no answer 23 is on its way after it.
+module _ {l : Line} (h : Invariant l) (u : None23 l) (s : Step) where
+  step-not-23 : (o : Outcome) → Does l s o → o .code ≢ 23
+  unfolding Not23
+  step-not-23 o (refuses n other) = other
+  step-not-23 o (sends w) = λ e. omega (arith, e)
+  step-not-23 o (denies w n) = box-not-23 h w
+  step-not-23 o (grants w) = λ e. omega (arith, e)
+  step-not-23 o (hears w) = rw (w .answer) at (u (s .train))
+  step-not-23 o (enters w) = λ e. omega (arith, e)
+  step-not-23 o (clears w) = λ e. omega (arith, e)
 
-  both : (r : Train) (b : ℕ) (x : SwitchBox) → Unsaid (r .message) → Untold (put l (s .train) r b x)
-  both r b x m = every-train l (s .train) r b x (λ _ y. Unsaid (y .message)) m u
+  both : (r : Train) (b : ℕ) (x : SwitchBox) → Not23 (r .message) → None23 (put l (s .train) r b x)
+  both r b x m = every-train l (s .train) r b x (λ _ y. Not23 (y .message)) m u
 
-  alone : (r : Train) → Unsaid (r .message) → Untold (putTrain l (s .train) r)
+  alone : (r : Train) → Not23 (r .message) → None23 (putTrain l (s .train) r)
   alone r m = rw (train-alone l (s .train) r 0) at (both r 0 (boxAt l 0) m)
 
-  keeps-untold : (o : Outcome) → Does l s o → Untold (o .line)
-  unfolding Unsaid withMessage entered cleared
-  keeps-untold o (refuses n other) = u
-  keeps-untold o (sends {q} w) = alone _ (rw (sending-message _ _ q) tt)
-  keeps-untold o (denies w n) = alone _ (box-unsaid h w)
-  keeps-untold o (grants w) = both _ _ _ (λ e. omega (arith, e))
-  keeps-untold o (hears {q} {c} w) = alone _ (rw (heard-message _ _ q c) tt)
-  keeps-untold o (enters w) = both _ _ _ (u (s .train))
-  keeps-untold o (clears w) = both _ _ _ (u (s .train))
+  keeps-none-23 : (o : Outcome) → Does l s o → None23 (o .line)
+  unfolding Not23 withMessage entered cleared
+  keeps-none-23 o (refuses n other) = u
+  keeps-none-23 o (sends {q} w) = alone _ (rw (sending-message _ _ q) tt)
+  keeps-none-23 o (denies w n) = alone _ (box-not-23 h w)
+  keeps-none-23 o (grants w) = both _ _ _ (λ e. omega (arith, e))
+  keeps-none-23 o (hears {q} {c} w) = alone _ (rw (heard-message _ _ q c) tt)
+  keeps-none-23 o (enters w) = both _ _ _ (u (s .train))
+  keeps-none-23 o (clears w) = both _ _ _ (u (s .train))
 
 -- And so after every list of steps; on a start line no train has a message.
-after-steps : {l : Line} → Invariant l → Untold l → (steps : List Step) (s : Step) → step (lineAfter step l steps) s .code ≢ 23
+after-steps : {l : Line} → Invariant l → None23 l → (steps : List Step) (s : Step) → step (lineAfter step l steps) s .code ≢ 23
 unfolding lineAfter
-after-steps {l} h u [] s = never-told h u s _ (does l s)
-after-steps {l} h u (x ∷ rest) s = after-steps (keeps l h x _ (does l x)) (keeps-untold h u x _ (does l x)) rest s
+after-steps {l} h u [] s = step-not-23 h u s _ (does l s)
+after-steps {l} h u (x ∷ rest) s = after-steps (keeps l h x _ (does l x)) (keeps-none-23 h u x _ (does l x)) rest s
 
 pub occupied : {t : Table} → Accepted t → (steps : List Step) (s : Step) → step (reached t steps) s .code ≢ 23
-unfolding Unsaid
+unfolding Not23
 occupied {t} a = after-steps (start-invariant t a) (λ i. rw (start-message t a i) tt)

@@ -103,7 +103,7 @@ pub lock-address-iff : (v : Around) (b : ℕ) → (addressed v (LockAt b) ≡ tr
 unfolding addressed
 lock-address-iff v b = simp facts Iff·rfl
 
--- A box gives its lock: it is nobody else's, no train is on the box, and front and next are the train's there.
+-- A box gives its lock: it is nobody else's, its sensor is passive, and front and next are reserved for the train there.
 pub lock-grant-iff : (v : Around) (p : BoxPlan) (x : SwitchBox) (b : ℕ)
     → (first (grantRows v p x (LockAt b)) ≡ 0)
     ↔ ((another (v .number) (x .lock) ≡ false)

@@ -1,18 +1,23 @@
 -- A step by row Step: 13, 14, or its effect put back.
 use Prim.Native.Nat.{ℕ, _≤_}
-use mathlib.Core.Path.{_≡_, refl, _∙_}
+use mathlib.Core.Path.{_≡_, refl, sym, _∙_, ap}
 use mathlib.Core.Logic.{_⊎_, _↔_, Iff·rfl, _≢_}
 use mathlib.Core.Bool.{Bool, true, false, _&&_}
 use borrow.Author.Tests.{eq-eqb, ne-eqb}
 use lib.Dec.{eqb, leb}
+use Rattle.rules.specs.declared.Request.{Request}
+use Rattle.rules.specs.declared.Message.{Message}
+use Rattle.rules.specs.declared.Message.the-variants.{Sent}
 use Rattle.rules.specs.declared.Line.{Line}
 use Rattle.rules.specs.declared.Effect.{Effect}
 use Rattle.rules.specs.declared.Effect.the-variants.{Refused}
+use Rattle.rules.specs.declared.Outcome.{Outcome}
 use Rattle.rules.specs.Rows.{first, outside}
 use Rattle.rules.specs.Track.{planAt}
-use Rattle.rules.specs.Line.{around, boxAt, trainAt}
-use Rattle.rules.specs.Steps.{Step, apply, unless, formed, formRows, stepRows, concernedBox, effect, step}
-use Rattle.rules.proofs.Tests.{facts, or-true-iff, first-none, first-zero-iff}
+use Rattle.rules.specs.Line.{around, boxAt, trainAt, requestBox, messageBox}
+use Rattle.rules.specs.Steps.{Step, boxRows, apply, unless, reply, boxAnswers, formed, formRows, stepRows, concernedBox, effect, step}
+use Rattle.rules.specs.Safety.{TrainOf}
+use Rattle.rules.proofs.Tests.{facts, or-true-iff, outside-false-iff, first-none, first-zero-iff}
 
 -- The kinds that there are.
 pub formed-iff : (kind box : ℕ)
@@ -70,3 +75,19 @@ module _ (l : Line) (s : Step) where
     pub step-taken : outside (l .table .k) (s .train) ≡ false → apply l (s .train) boxHere effectHere ≡ step l s
     unfolding step stepRows formRows first unless
     step-taken e = rw (form, e) refl
+
+-- Kind 3 of a train whose message is on its way to a box: the code is that of the box's rows.
+pub box-says : (l : Line) (s : Step) (q : Request) → s .kind ≡ 3 → s .box ≡ 0 → TrainOf (l .table) (s .train)
+    → trainAt l (s .train) .message ≡ Sent q
+    → step l s .code ≡ first (boxRows (around l (s .train)) (planAt (l .table) (requestBox q)) (boxAt l (requestBox q)) q)
+unfolding formed concernedBox effect boxAnswers reply apply messageBox
+box-says l s q kind box k asked =
+    let form : formed (s .kind) (s .box) ≡ true = rw (kind, box) in
+    ap (λ (o : Outcome). o .code) (sym (step-taken l s form (outside-false-iff _ _ .1 (k .low, k .high))))
+    ∙ rw kind (by (trainAt l (s .train) .message) asked)
+  where
+    by : (g : Message) → g ≡ Sent q
+        → apply l (s .train) (messageBox g)
+        (boxAnswers (around l (s .train)) (trainAt l (s .train)) (planAt (l .table) (messageBox g)) (boxAt l (messageBox g)) g) .code
+        ≡ first (boxRows (around l (s .train)) (planAt (l .table) (requestBox q)) (boxAt l (requestBox q)) q)
+    by g e = rw e

@@ -204,8 +204,8 @@ ring =
     ∷ 1 ∷ 2 ∷ 2 ∷ 1
     ∷ 1 ∷ 1 ∷ 2 ∷ 0 ∷ 0 ∷ 1 ∷ 1 ∷ 2 ∷ 0 ∷ 0 ∷ []
 
--- The head of a table with 16 trains, and 96 segments: 31 pairs of parallel tracks between points, a segment before each pair, and two
--- links at the end.
+-- Head, segments and boxes of a table with 16 trains. 96 segments: 31 pairs of parallel tracks between points, a segment before each pair,
+-- and two links at the end.
 unfoldable pub longTrack : List ℕ
 longTrack =
     (0x4E ∷ 0x45 ∷ 0x54 ∷ 0 ∷ 1 ∷ 96 ∷ 66 ∷ 16 ∷ [])
@@ -217,7 +217,7 @@ longTrack =
     2 ∷ (3 * j - 2) ∷ (3 * j - 1) ∷ (3 * j) ∷ 1 ∷ 2 ∷ (3 * j + 1) ∷ (3 * j - 1) ∷ (3 * j) ∷ 1 ∷ [])
     ++ (1 ∷ 94 ∷ 95 ∷ 0 ∷ 0 ∷ 1 ∷ 95 ∷ 96 ∷ 0 ∷ 0 ∷ 0 ∷ 96 ∷ 0 ∷ 0 ∷ 0 ∷ [])
 
--- The long track with its trains, the last of them with a route of 64 segments.
+-- The record of its last train, with a route of 64 segments; and the table with all its trains, the others with a route of one.
 unfoldable pub longTrain : List ℕ
 longTrain = (0 ∷ 64 ∷ []) ++ joinOf 31 (λ j. (3 * j - 2) ∷ (3 * j - 1) ∷ []) ++ (94 ∷ 95 ∷ [])
 

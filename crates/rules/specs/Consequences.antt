@@ -18,7 +18,7 @@ use Rattle.rules.specs.Line.{startLine, around, boxAt, trainAt, holding,
 use Rattle.rules.specs.Steps.{Step, stands, step}
 use Rattle.rules.specs.Record.{recordFault, checkedStep}
 use Rattle.rules.specs.History.{Event, lineAfter, events, accepted}
-use Rattle.rules.specs.Safety.{TrainOf, reached, history, atomic}
+use Rattle.rules.specs.Safety.{TrainOf, reached, history, whereIs, atomic, CrossesBox}
 use Rattle.rules.specs.Invariant.{believed, Invariant}
 
 -- Holding z is train i's at its box.
@@ -40,13 +40,12 @@ pub record Consequences (t : Table) (steps : List Step) : Type 0 where
   pub sound : recordFault (reached t steps) ≡ false
   pub checkedLine : lineAfter checkedStep (startLine t) steps ≡ reached t steps
   pub checkedEvents : events checkedStep (startLine t) steps ≡ history t steps
-  -- No step is answered 23, neither by a box (kind 3) nor when its answer is heard (kind 4).
+  -- No step is answered 23: no box says it (kind 3), and no train hears it (kind 4).
   pub occupied : (s : Step) → step (reached t steps) s .code ≢ 23
-  -- Where a train is on a point, a request for its lock is answered 24.
+  -- While a train crosses a point, a request for that point's lock is answered 24.
   pub lockTold
-      : (s : Step) (b : ℕ) → s .kind ≡ 3 → s .box ≡ 0 → TrainOf t (s .train)
-      → trainAt (reached t steps) (s .train) .message ≡ Sent (Lock b) → boxAt (reached t steps) b .sensor ≡ true
-      → step (reached t steps) s .code ≡ 24
+      : (i q b : ℕ) → TrainOf t i → CrossesBox t i (whereIs t steps i) q b → (s : Step) → s .kind ≡ 3 → s .box ≡ 0 → TrainOf t (s .train)
+      → trainAt (reached t steps) (s .train) .message ≡ Sent (Lock b) → step (reached t steps) s .code ≡ 24
   -- No message is open where a train enters.
   pub silent
       : (s : Step) → s .kind ≡ 5 → step (reached t steps) s .code ≡ 0 → trainAt (reached t steps) (s .train) .message ≡ Idle

@@ -190,10 +190,6 @@ asking g lock stem left =
     putBox (withTrain 0 3 1 1 g) 2
     (record { sensor = false; position = 1; lock = lock; stem = stem; left = left; right = 0 })
 
--- A train is on box 2.
-abbrev pub sensedThere : Line → Line
-sensedThere l = putBox l 2 (sensed (boxAt l 2))
-
 abbrev pub heldByOther : Line
 heldByOther =
     putBox
@@ -207,6 +203,10 @@ openAtEnter =
     (putTrain startS 1 (made 0 3 1 1 true true true (Sent (Reserve 2))))
     2
     (record { sensor = false; position = 1; lock = 2; stem = 0; left = 2; right = 0 })
+
+-- The line with the sensor of box 2 active, whether or not a train crosses it.
+abbrev pub boxSensed : Line → Line
+boxSensed l = putBox l 2 (sensed (boxAt l 2))
 
 -- Train 1 with another route as it stands: 1, 3, 4, and back over 4, 2, 1. It asks box 2 for the lock, or box 3 for a
 -- reservation of its next segment.
@@ -232,22 +232,26 @@ madeUpCases =
     ∷ checkedTrain (goingBack (Answered (Reserve 2) 0)) (stepOf 4 1 0) 1 gives (0 ∷ 1 ∷ 3 ∷ 1 ∷ 1 ∷ 0 ∷ 1 ∷ replicate 5 0)
     ∷ checked (goingBack Idle) (stepOf 1 1 4) gives (17 ∷ [])
     ∷ checkedBox (goingBack (Sent (Reserve 3))) (stepOf 3 1 0) 3 gives (0 ∷ 0 ∷ 1 ∷ 0 ∷ 2 ∷ 1 ∷ 0 ∷ [])
-    -- The train itself is no other holder; 25 by the front alone.
+    -- The train itself is no other holder; 25 by the front alone, and with the lock the train's own.
     ∷ checked (asking (Sent (Reserve 2)) 0 1 1) (stepOf 3 1 0) gives (0 ∷ [])
     ∷ checked (asking (Sent (Lock 2)) 1 1 1) (stepOf 3 1 0) gives (0 ∷ [])
     ∷ checked (asking (Sent (Lock 2)) 0 0 1) (stepOf 3 1 0) gives (25 ∷ [])
+    ∷ checked (asking (Sent (Lock 2)) 1 0 1) (stepOf 3 1 0) gives (25 ∷ [])
     -- 23: the sensor is active, and the lock is free or the train's own, whatever is reserved. Another's lock is 24, before 23 and 25.
-    -- The answer is on its way, and the box is as it was. A reservation is given whatever the sensor.
-    ∷ checked (sensedThere (asking (Sent (Lock 2)) 0 1 1)) (stepOf 3 1 0) gives (23 ∷ [])
-    ∷ checked (sensedThere (asking (Sent (Lock 2)) 1 1 1)) (stepOf 3 1 0) gives (23 ∷ [])
-    ∷ checked (sensedThere (asking (Sent (Lock 2)) 0 0 0)) (stepOf 3 1 0) gives (23 ∷ [])
-    ∷ checked (sensedThere (asking (Sent (Lock 2)) 2 1 1)) (stepOf 3 1 0) gives (24 ∷ [])
-    ∷ checked (sensedThere (asking (Sent (Lock 2)) 2 0 0)) (stepOf 3 1 0) gives (24 ∷ [])
+    -- The answer is on its way, and the box is as it was. Heard, it leaves nothing recorded.
+    ∷ checked (boxSensed (asking (Sent (Lock 2)) 0 1 1)) (stepOf 3 1 0) gives (23 ∷ [])
+    ∷ checked (boxSensed (asking (Sent (Lock 2)) 1 1 1)) (stepOf 3 1 0) gives (23 ∷ [])
+    ∷ checked (boxSensed (asking (Sent (Lock 2)) 0 0 0)) (stepOf 3 1 0) gives (23 ∷ [])
+    ∷ checked (boxSensed (asking (Sent (Lock 2)) 2 1 1)) (stepOf 3 1 0) gives (24 ∷ [])
+    ∷ checked (boxSensed (asking (Sent (Lock 2)) 2 0 0)) (stepOf 3 1 0) gives (24 ∷ [])
     ∷ checked (asking (Sent (Lock 2)) 2 0 0) (stepOf 3 1 0) gives (24 ∷ [])
-    ∷ checkedTrain (sensedThere (asking (Sent (Lock 2)) 0 1 1)) (stepOf 3 1 0) 1
+    ∷ checkedTrain (boxSensed (asking (Sent (Lock 2)) 0 1 1)) (stepOf 3 1 0) 1
     gives (23 ∷ 0 ∷ 3 ∷ 1 ∷ 1 ∷ 0 ∷ 0 ∷ 0 ∷ 2 ∷ 2 ∷ 2 ∷ 23 ∷ [])
-    ∷ checkedBox (sensedThere (asking (Sent (Lock 2)) 0 1 1)) (stepOf 3 1 0) 2 gives (23 ∷ 1 ∷ 1 ∷ 0 ∷ 1 ∷ 1 ∷ 0 ∷ [])
-    ∷ checked (sensedThere (asking (Sent (Reserve 2)) 0 1 0)) (stepOf 3 1 0) gives (0 ∷ [])
+    ∷ checkedBox (boxSensed (asking (Sent (Lock 2)) 0 1 1)) (stepOf 3 1 0) 2 gives (23 ∷ 1 ∷ 1 ∷ 0 ∷ 1 ∷ 1 ∷ 0 ∷ [])
+    ∷ checkedTrain (withTrain 0 3 1 1 (Answered (Lock 2) 23)) (stepOf 4 1 0) 1 gives (23 ∷ 0 ∷ 3 ∷ 1 ∷ 1 ∷ replicate 7 0)
+    -- A reservation is given, and a lock taken back, whatever the sensor, which stays as it was.
+    ∷ checkedBox (boxSensed (asking (Sent (Reserve 2)) 0 1 0)) (stepOf 3 1 0) 2 gives (0 ∷ 1 ∷ 1 ∷ 0 ∷ 1 ∷ 1 ∷ 0 ∷ [])
+    ∷ checkedBox (boxSensed (asking (Sent (Unlock 2)) 1 1 1)) (stepOf 3 1 0) 2 gives (0 ∷ 1 ∷ 1 ∷ 0 ∷ 1 ∷ 1 ∷ 0 ∷ [])
     -- A give-back drops one record when it is sent; the box frees what is the train's own, and not what is another's or free; the yes
     -- to it is not recorded.
     ∷ checkedTrain (putTrain startS 1 (made 0 3 1 1 true true true Idle)) (stepOf 7 1 2) 1

@@ -123,7 +123,7 @@ clearRows r = 20 if leb (r .covered) 1 ∷ []
 unfoldable pub another : ℕ → ℕ → Bool
 another i holder = not (eqb holder 0) && not (eqb holder i)
 
--- Row Box, for what is asked for.
+-- Row Box, for what is asked for; of a lock as 02, ticket 3 orders it.
 unfoldable pub grantRows : Around → BoxPlan → SwitchBox → Holding → List Row
 grantRows v p x (NextAt b) = 22 if another (v .number) (holderOf p x (v .next)) ∷ []
 grantRows v p x (LockAt b) =

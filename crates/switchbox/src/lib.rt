@@ -91,8 +91,8 @@ fn holds_both(v: Around, p: BoxPlan, x: SwitchBox) -> bool
 fn lock_code(v: Around, p: BoxPlan, x: SwitchBox) -> u8
     ensures { λ c. ⌜ ((b : ℕ) → c ≡ first (grantRows v p x (LockAt b))) ⌝ }
 {
-    let locked = another(v.number, x.lock);
-    if locked {
+    let held = another(v.number, x.lock);
+    if held {
         return 24;
     }
     if x.sensor {

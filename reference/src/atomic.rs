@@ -225,11 +225,11 @@ impl<'a> WholeLine<'a> {
         }
         let me = (i + 1) as u8;
         let b = number as usize - 1;
-        if self.boxes[b].sensor {
-            return 23;
-        }
         if self.boxes[b].lock != 0 && self.boxes[b].lock != me {
             return 24;
+        }
+        if self.boxes[b].sensor {
+            return 23;
         }
         if self.holder(front, number) != me || self.holder(next, number) != me {
             return 25;

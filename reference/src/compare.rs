@@ -12,7 +12,7 @@ use crate::table::Table;
 /// What came of a case.
 #[derive(Clone, Copy, Debug, Default)]
 pub struct Outcome {
-    /// Clauses of the demand broken after any of the steps, or at the start.
+    /// Clauses broken after any of the steps, or at the start.
     pub broken: Clauses,
     /// Whether any answer differs from the right engine's.
     pub answers_differ: bool,

@@ -17,9 +17,14 @@ pub fn file_codes() -> impl Iterator<Item = usize> {
     std::iter::once(0).chain(FILE_CODES.map(usize::from))
 }
 
-/// The codes of steps from an accepted file on: 0, 13 to 25 and 29.
+/// The codes of steps on records that 27 lets through: 0, 13 to 25 and 29.
 pub fn step_codes() -> impl Iterator<Item = usize> {
     std::iter::once(0).chain(13..=25).chain([29])
+}
+
+/// The codes of steps from the start of an accepted table on: all of these but 23.
+pub fn list_codes() -> impl Iterator<Item = usize> {
+    step_codes().filter(|&code| code != 23)
 }
 
 /// Whether a code refuses a step, which then leaves the line as it was: 13 to 21 and 29.

@@ -1,5 +1,6 @@
 //! The third demand: what must hold after every list of steps. Each clause
-//! has its own name, so that a violation says which one broke.
+//! has its own name, so that a violation says which one broke. One clause
+//! stands beside the demand: that no step is answered 23.
 
 use crate::atomic::*;
 use crate::fault::Fault;
@@ -7,7 +8,7 @@ use crate::line::Line;
 use crate::step::Step;
 use crate::table::*;
 
-/// One clause of the demand.
+/// One clause, of the demand or beside it.
 #[derive(Clone, Copy, Debug, PartialEq, Eq)]
 #[repr(u8)]
 pub enum Clause {
@@ -33,10 +34,20 @@ pub enum Clause {
     LockDiffers,
     /// Line and whole line differ in a reservation holder.
     ReservationDiffers,
+    /// Beside the demand: a step is answered 23, by the box or when the train
+    /// hears it. A train on a point has its lock, so that another is told 24.
+    Answered23,
+}
+
+impl Clause {
+    /// Whether the clause is one of the demand.
+    pub fn in_demand(self) -> bool {
+        self != Clause::Answered23
+    }
 }
 
 /// All clauses, in the order of their numbers.
-pub const CLAUSES: [Clause; 11] = [
+pub const CLAUSES: [Clause; 12] = [
     Clause::TwoTrainsOneSegment,
     Clause::FrontBeyondRoute,
     Clause::PositionNotJoining,
@@ -48,6 +59,7 @@ pub const CLAUSES: [Clause; 11] = [
     Clause::PositionDiffers,
     Clause::LockDiffers,
     Clause::ReservationDiffers,
+    Clause::Answered23,
 ];
 
 /// A set of clauses.
@@ -69,6 +81,11 @@ impl Clauses {
 
     pub fn is_empty(self) -> bool {
         self.0 == 0
+    }
+
+    /// Whether a clause of the demand is among them.
+    pub fn breaks_demand(self) -> bool {
+        CLAUSES.into_iter().any(|clause| clause.in_demand() && self.has(clause))
     }
 }
 
@@ -135,6 +152,9 @@ impl<'a> Checker<'a> {
     /// clauses that are broken after it.
     pub fn observe(&mut self, step: Step, answer: u8, line: &Line) -> Clauses {
         let mut broken = Clauses::default();
+        if answer == 23 {
+            broken.add(Clause::Answered23);
+        }
         if self.position_changed_under_train(line) {
             broken.add(Clause::PositionChangedUnderTrain);
         }
@@ -233,7 +253,7 @@ fn line_place(front: usize, covered: u8) -> Option<Place> {
 }
 
 /// The first violation of a list of steps on the right engine: after how
-/// many steps, and which clauses. `None` if the demand holds throughout.
+/// many steps, and which clauses. `None` if all of them hold throughout.
 pub fn check_demand(table: &Table, steps: &[Step]) -> Option<(usize, Clauses)> {
     let mut line = crate::line::start_line(table);
     let mut checker = Checker::new(table, &line);

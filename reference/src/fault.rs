@@ -83,14 +83,16 @@ faults! {
         ReservationTakenOver,
         /// 22 also where the train itself holds the segment.
         OwnSegmentRefused,
-        /// A lock is given though the sensor is active.
+        /// 23 is not looked at: a lock is given though the sensor is active.
         SensorNotAsked,
         /// A lock is given though another holds it.
         LockTakenOver,
-        /// 24 is looked at before 23.
-        LockBeforeSensor,
-        /// 25 is looked at before 23 and 24.
+        /// 23 is looked at before 24.
+        SensorBeforeLock,
+        /// 25 is looked at before 24 and 23.
         ReservationsFirst,
+        /// 25 is looked at before 23, after 24.
+        ReservationsBeforeSensor,
         /// A lock is given without reservations.
         LockNeedsNoReservation,
         /// A lock is given without the front reserved.
@@ -241,6 +243,8 @@ faults! {
         BackCodesOfRequests,
         /// 27 does not ask 16 and 17 of a give-back.
         BackMessageAnywhere,
+        /// 27 does not take 23 for the answer to a lock.
+        SensorAnswerRefused,
     }
 }
 
@@ -276,7 +280,11 @@ impl Fault {
     pub fn in_record(self) -> bool {
         matches!(
             self,
-            Fault::RouteInForceMayJump | Fault::TableMayJump | Fault::BackCodesOfRequests | Fault::BackMessageAnywhere
+            Fault::RouteInForceMayJump
+                | Fault::TableMayJump
+                | Fault::BackCodesOfRequests
+                | Fault::BackMessageAnywhere
+                | Fault::SensorAnswerRefused
         )
     }
 

@@ -91,6 +91,7 @@ fn message_fault(line: &Line, train: usize, fault: Fault) -> Option<RecordFault>
     }
     let known = match request.wish {
         Wish::Reservation => matches!(code, 0 | 22),
+        Wish::Lock if fault == Fault::SensorAnswerRefused => matches!(code, 0 | 24 | 25),
         Wish::Lock => matches!(code, 0 | 23..=25),
         Wish::ReservationBack if fault == Fault::BackCodesOfRequests => matches!(code, 0 | 22),
         Wish::LockBack if fault == Fault::BackCodesOfRequests => matches!(code, 0 | 23..=25),

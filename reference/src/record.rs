@@ -68,8 +68,15 @@ impl Record {
         record
     }
 
+    /// The record of a line that steps have reached, with fields changed.
+    pub fn changed(line: &Line, changes: &[Change]) -> Record {
+        let mut record = Record::of(line);
+        changes.iter().for_each(|&change| record.change(change));
+        record
+    }
+
     /// The record with one field changed.
-    pub fn change(&mut self, [part, index, field, value]: Change) {
+    fn change(&mut self, [part, index, field, value]: Change) {
         let (index, field) = (index as usize, field as usize);
         match part {
             b'h' => self.head[field] = value,

@@ -137,10 +137,11 @@ fn box_code(line: &Line, train: usize, request: Request, fault: Fault) -> u8 {
                 Fault::BoxesAlwaysNo => 24,
                 Fault::LockAlwaysGiven => 0,
                 Fault::No24WithoutHolder if state.lock == 0 && number % 2 == 1 => 24,
-                Fault::LockBeforeSensor if locked => 24,
+                Fault::SensorBeforeLock if active => 23,
                 Fault::ReservationsFirst if missing => 25,
-                _ if active => 23,
                 _ if locked => 24,
+                Fault::ReservationsBeforeSensor if missing => 25,
+                _ if active => 23,
                 _ if missing => 25,
                 _ => 0,
             }
@@ -160,7 +161,10 @@ fn show_code(line: &Line, train: usize, request: Request) -> u8 {
         Wish::Reservation if line.reservation(next, request.number) == me => 0,
         Wish::Lock if lock == me => 0,
         Wish::Reservation => 22,
-        Wish::Lock => box_code(line, train, request, Fault::None).max(23),
+        Wish::Lock => match box_code(line, train, request, Fault::None) {
+            0 => 24,
+            code => code,
+        },
         Wish::ReservationBack | Wish::LockBack => 0,
     }
 }

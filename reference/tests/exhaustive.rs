@@ -3,10 +3,12 @@
 
 mod common;
 use common::*;
-use reference::counts::{refuses_step, step_codes, CODES};
-use reference::demand::Checker;
+use reference::counts::{list_codes, refuses_step, CODES};
+use reference::demand::{Checker, Clause, Clauses};
 use reference::fast;
 use reference::fault::Fault;
+use reference::generate::small_tables::Files;
+use reference::generate::smallest::may_show;
 use reference::line::{start_line, start_line_with, Line};
 use reference::line_check::record_code;
 use reference::step::{step, step_with, Step};
@@ -32,19 +34,26 @@ fn all_steps(table: &Table) -> Vec<Step> {
 
 /// Searches all reachable lines; gives their number and the codes seen.
 fn search(table: &Table) -> (usize, BTreeSet<u8>) {
+    let (lines, codes, _) = search_with(table, Fault::None);
+    (lines, codes)
+}
+
+/// Searches all lines that are reachable with a fault; gives their number, the codes seen and the clauses broken, which
+/// are none without a fault.
+fn search_with(table: &Table, fault: Fault) -> (usize, BTreeSet<u8>, Clauses) {
     assert_eq!(check_table(table), Ok(()));
     let start = start_line(table);
     let first = Checker::new(table, &start);
     assert!(first.state_clauses(&start).is_empty());
     let mut seen = HashSet::from([(start.boxes.clone(), start.trains.clone(), first.state())]);
     let mut open = vec![(start, first)];
-    let mut codes = BTreeSet::new();
+    let (mut codes, mut all_broken) = (BTreeSet::new(), Clauses::default());
     let steps = all_steps(table);
     while let Some((line, checker)) = open.pop() {
         for &bytes in &steps {
             let before = &line;
             let mut line = before.clone();
-            let answer = step(&mut line, bytes);
+            let answer = step_with(&mut line, bytes, fault);
             codes.insert(answer);
             if refuses_step(answer) {
                 assert_eq!(*before, line);
@@ -52,14 +61,15 @@ fn search(table: &Table) -> (usize, BTreeSet<u8>) {
             }
             let mut checker = checker.clone();
             let broken = checker.observe(bytes, answer, &line);
-            assert!(broken.is_empty(), "{bytes:?} {answer} {broken:?} {line:?}");
+            assert!(broken.is_empty() || fault != Fault::None, "{bytes:?} {answer} {broken:?} {line:?}");
+            all_broken.join(broken);
             if seen.insert((line.boxes.clone(), line.trains.clone(), checker.state())) {
                 assert_eq!(record_code(&line), 0);
                 open.push((line, checker));
             }
         }
     }
-    (seen.len(), codes)
+    (seen.len(), codes, all_broken)
 }
 
 #[test]
@@ -74,8 +84,47 @@ fn all_lists_on_s() {
 fn all_lists_of_two_that_follow() {
     let (lines, codes) = search(&s_with(&[(0, &[2, 4]), (0, &[3, 4])]));
     println!("{lines} lines, codes {codes:?}");
-    let expected: BTreeSet<u8> = step_codes().map(|code| code as u8).collect();
+    let expected: BTreeSet<u8> = list_codes().map(|code| code as u8).collect();
     assert_eq!(codes, expected);
+}
+
+/// With 23 looked at before 24 some list has 23, and no clause of demand 3 is broken by any.
+#[test]
+fn sensor_before_lock_is_told_by_23_alone() {
+    let (_, codes, broken) = search_with(&s_with(&[(0, &[2, 4]), (0, &[3, 4])]), Fault::SensorBeforeLock);
+    assert!(codes.contains(&23) && broken.has(Clause::Answered23) && !broken.breaks_demand(), "{broken:?}");
+}
+
+/// Whether segments stand in the order of their ends, and boxes are numbered in the order in which these name them.
+/// Every network can be numbered so, and whether some list has a code does not depend on the numbers.
+fn plainly_numbered(table: &Table) -> bool {
+    let ends: Vec<[u8; 2]> = table.segments.iter().map(|s| [s.a, s.b]).collect();
+    let known = |most: u8, &number: &u8| (number <= most + 1).then(|| number.max(most));
+    ends.is_sorted() && ends.as_flattened().iter().try_fold(0, known).is_some()
+}
+
+/// No list of steps has 23 on any table as small as the smallest on which one has 24.
+#[test]
+fn all_lists_on_small_tables() {
+    let mut with_24 = 0;
+    for length in 0.. {
+        let mut tables = 0;
+        Files::accepted(length, 1).first::<()>(&mut |table| {
+            if may_show(table, 23) && plainly_numbered(table) && check_table(table).is_ok() {
+                let (_, codes) = search(table);
+                assert!(!codes.contains(&23));
+                tables += 1;
+                with_24 += usize::from(codes.contains(&24));
+            }
+            None
+        });
+        if tables > 0 {
+            println!("{length} bytes: {tables} tables with a route over a point, 24 on {with_24}");
+        }
+        if with_24 > 0 {
+            return;
+        }
+    }
 }
 
 #[test]
@@ -150,18 +199,12 @@ fn faults_no_list_shows() {
         s_with(&[(0, &[2, 4]), (0, &[3, 4])]),
         with_links(&[(0, &[1, 2, 3]), (0, &[2, 4, 5])]),
     ];
-    for fault in [
-        Fault::NextBeforeMessage,
-        Fault::OwnSegmentRefused,
-        Fault::LockNeedsNextOnly,
-        Fault::RecordsKept,
-        Fault::BackMayBeRefused,
-        Fault::BackFreesAnyone,
-    ] {
+    for fault in UNSEEN {
         assert!(tables.iter().all(|t| !told_apart(t, fault)), "{fault:?}");
     }
     for fault in [
-        Fault::SensorNotAsked,
+        Fault::SensorBeforeLock,
+        Fault::ReservationsFirst,
         Fault::LockTakenOver,
         Fault::RecordedBeforePlace,
         Fault::DroppedWhenHeard,

@@ -2,31 +2,25 @@
 //! with a fault is found to differ.
 
 mod common;
-use common::table_96;
+use common::{same, table_96, UNSEEN};
 use reference::counts::{file_codes, step_codes, Counts, CODES};
 use reference::fast;
 use reference::fault::{Fault, FAULTS};
 use reference::generate::damage::damaged_file;
+use reference::generate::lock_asked::LockCounts;
 use reference::generate::made_up::{changes, step_on, Aim, AIMS};
 use reference::generate::outside::table_with_steps;
 use reference::generate::prng::Prng;
 use reference::generate::steps::drive;
 use reference::generate::tables::{accepted_table, largest_table};
-use reference::line::{start_line, start_line_with, Line};
+use reference::line::{start_line, start_line_with};
 use reference::line_check::record_fault_with;
-use reference::numbers::{box_numbers, train_numbers};
 use reference::record::Record;
 use reference::refusal::{code_of, Refusal};
 use reference::step::{step, step_with, Step};
 use reference::table::{Table, BORDER, LINK, MAX_BOXES, MAX_TRAINS};
 use reference::table_read::{read_table, read_table_with};
 use reference::table_write::{file_bytes, write_table};
-
-/// Whether all trains and boxes are the same.
-fn same(line: &Line, fast: &fast::Line) -> bool {
-    (0..line.trains.len()).all(|i| train_numbers(line, i) == fast.train_numbers(i))
-        && (0..line.boxes.len()).all(|i| box_numbers(&line.boxes[i]) == fast.box_numbers(i))
-}
 
 /// The fast start line of an accepted file.
 fn fast_start(file: &[u8]) -> fast::Line {
@@ -72,25 +66,34 @@ fn numbers(line: &fast::Line) -> Vec<u8> {
     trains.chain((0..MAX_BOXES).flat_map(|i| line.box_numbers(i))).collect()
 }
 
+/// Codes of checked steps on made-up records, and what boxes find there that answer a lock.
+#[derive(Default)]
+struct RecordCounts {
+    codes: Counts,
+    locks: LockCounts,
+}
+
 /// Whether made-up records, one for each aim and more that pass 27, have the same code of a checked step, which is
 /// counted, and the same record after it, and are written alike.
-fn records_alike(case: u64, fault: Fault, codes: &mut Counts) -> bool {
+fn records_alike(case: u64, fault: Fault, counts: &mut RecordCounts) -> bool {
     let mut rng = Prng::for_case(34, case);
     let mut reached = start_line(&accepted_table(&mut rng));
     drive(&mut rng, &mut reached, case as usize % 200);
-    AIMS.into_iter().chain([Aim::Nothing; 20]).all(|aim| {
+    AIMS.into_iter().chain([Aim::Nothing; 20]).chain([Aim::LockAsked; 3]).all(|aim| {
         let Some(changes) = changes(&mut rng, &reached, aim) else {
             return true;
         };
-        let mut record = Record::of(&reached);
-        changes.iter().for_each(|&change| record.change(change));
+        let record = Record::changed(&reached, &changes);
         let (mut line, mut fast) = (record.line(), record.fast_line());
-        let bytes = step_on(&mut rng, if aim == Aim::Nothing { &line } else { &reached }, &changes);
+        let bytes = step_on(&mut rng, if aim.clause().is_none() { &line } else { &reached }, &changes, aim);
         let code = match record_fault_with(&line, fault) {
-            None => step_with(&mut line, bytes, fault),
+            None => {
+                counts.locks.add(&line, bytes);
+                step_with(&mut line, bytes, fault)
+            }
             Some(_) => 27,
         };
-        codes[usize::from(code)] += 1;
+        counts.codes[usize::from(code)] += 1;
         let answer = fast.step_checked(bytes);
         let same_record = match code {
             27 => numbers(&fast) == numbers(&record.fast_line()),
@@ -208,10 +211,12 @@ fn lines_are_used_again() {
 fn records() {
     let mut none = fast::Line::NONE;
     assert_eq!(none.step_checked([0; 3]), 27);
-    let mut codes = [0; CODES];
-    assert!((0..800).all(|case| records_alike(case, Fault::None, &mut codes)));
+    let mut counts = RecordCounts::default();
+    assert!((0..800).all(|case| records_alike(case, Fault::None, &mut counts)));
+    let RecordCounts { codes, locks } = counts;
     let seen = |code: usize| code == 27 || step_codes().any(|of_step| of_step == code);
     assert!((0..CODES).all(|code| (codes[code] > 20) == seen(code)), "{codes:?}");
+    assert!(locks.fewest() > 10, "{locks}");
 }
 
 /// Steps that change the line are taken by checked calls as by plain ones.
@@ -229,19 +234,11 @@ fn checked_steps() {
     }
 }
 
-/// The comparison finds every fault of the readable engine that shows at all. Of those in the steps, the first two of
-/// these six nothing tells, the others made-up records alone; those in the record check are told by made-up records.
+/// The comparison finds every fault of the readable engine that shows at all. Of those in the steps that no list
+/// shows, made-up records tell all but the first two; those in the record check are told by made-up records.
 #[test]
 fn faults_are_found() {
-    let unseen = [
-        Fault::NextBeforeMessage,
-        Fault::RecordsKept,
-        Fault::OwnSegmentRefused,
-        Fault::LockNeedsNextOnly,
-        Fault::BackMayBeRefused,
-        Fault::BackFreesAnyone,
-    ];
-    let in_records = |fault: Fault| (0..400).all(|case| records_alike(case, fault, &mut [0; CODES]));
+    let in_records = |fault: Fault| (0..400).all(|case| records_alike(case, fault, &mut RecordCounts::default()));
     for &fault in FAULTS.iter().filter(|fault| !fault.in_demand()) {
         let alike = match fault {
             _ if fault.in_record() => in_records(fault),
@@ -255,7 +252,9 @@ fn faults_are_found() {
                 runs_alike(&table, &steps, fault)
             }),
         };
-        assert_eq!(alike, unseen.contains(&fault), "{fault:?}");
+        assert_eq!(alike, UNSEEN.contains(&fault), "{fault:?}");
     }
-    assert_eq!(unseen.map(in_records), [true, true, false, false, false, false]);
+    for (i, fault) in UNSEEN.into_iter().enumerate() {
+        assert_eq!(in_records(fault), i < 2, "{fault:?}");
+    }
 }

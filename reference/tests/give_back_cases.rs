@@ -6,7 +6,7 @@ use reference::atomic::{atomic_order, WholeLine};
 use reference::demand::Checker;
 use reference::fast;
 use reference::line::*;
-use reference::numbers::{box_numbers, recorded, train_numbers};
+use reference::numbers::{recorded, train_numbers};
 use reference::step::Step;
 use reference::table::{Table, LINK};
 use reference::table_write::file_bytes;
@@ -21,8 +21,7 @@ fn walk(table: &Table, steps: &[(Step, u8)]) -> Line {
         go_on(&mut line, &[(bytes, code)]);
         assert!(checker.observe(bytes, code, &line).is_empty(), "{bytes:?}");
         assert_eq!(quick.step(bytes), code, "{bytes:?}");
-        assert!((0..line.trains.len()).all(|i| train_numbers(&line, i) == quick.train_numbers(i)));
-        assert!((0..line.boxes.len()).all(|i| box_numbers(&line.boxes[i]) == quick.box_numbers(i)));
+        assert!(same(&line, &quick), "{bytes:?}");
     }
     line
 }

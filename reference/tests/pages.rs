@@ -222,7 +222,8 @@ fn train_and_place_lead_to_the_byte() {
     assert!(!(1..=file[5]).contains(&file[place_in_file]));
 }
 
-/// What is right instead has code 0 on table S, at every step.
+/// What is right instead has code 0 on table S, at every step. Where the mistake is in the record, the steps are right as
+/// they are.
 #[test]
 fn what_is_right_is_accepted() {
     let mut tried = Vec::new();
@@ -230,6 +231,8 @@ fn what_is_right_is_accepted() {
         let words = on_one_line(text);
         let Some(steps) = between(&words, "Right: `", "`") else { continue };
         let right = on_file(S, &words, &on_lines(steps));
+        let mistake = example(&mistaken(blocks(text)[0]).1);
+        assert!(mistake.change.is_none() || mistake.steps == right.steps, "entry {code}");
         for length in 0..=right.steps.len() {
             let front = Example { steps: right.steps[..length].to_vec(), ..right.clone() };
             assert_eq!(front.answer(), 0, "entry {code}, {length} steps");

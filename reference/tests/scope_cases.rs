@@ -1,11 +1,14 @@
-//! The cases of the scope paper: "Checked on S and beside it". Those of a refused route are as the paper of
-//! changes has them.
+//! The cases of the scope paper: "Checked on S and beside it". Those of a refused route and of a lock are as the
+//! paper of changes has them.
 
 mod common;
 use common::*;
+use reference::atomic::{WholeBox, WholeLine};
 use reference::fast;
-use reference::line::start_line;
+use reference::line::*;
+use reference::numbers::{recorded, train_numbers};
 use reference::printout::printout;
+use reference::record::Record;
 use reference::refusal::Refusal;
 use reference::table::{Table, VERSION};
 use reference::table_read::{read_table, route_in_file};
@@ -173,14 +176,87 @@ fn through_a_point() {
     assert_eq!(line.reservation(2, 3), 1);
 }
 
+/// Another's lock request is answered 24 before train 1 enters and while it crosses the point.
 #[test]
-fn lock_taken_then_sensor_active() {
+fn locked_before_and_while_crossed() {
     let table = s_with(&[(0, &[2, 4]), (0, &[3, 4])]);
     let mut line = run(&table, &[ask(1, 1, 3, 0), ask(1, 1, 4, 0), ask(2, 1, 3, 0)].concat());
-    let mut before = line.clone();
-    go_on(&mut before, &ask(2, 2, 3, 24));
-    go_on(&mut line, &[([5, 1, 0], 0)]);
-    go_on(&mut line, &ask(2, 2, 3, 23));
+    for (sensor, steps) in [(false, vec![]), (true, vec![([5, 1, 0], 0)])] {
+        go_on(&mut line, &steps);
+        assert_eq!((line.boxes[2].sensor, line.boxes[2].lock), (sensor, 1));
+        go_on(&mut line, &ask(2, 2, 3, 24));
+    }
+}
+
+/// A record that passes 27, made up from the start of S: train 1 asks box 2 for its lock, and the box finds this
+/// sensor and these holders of its lock, of segment 1, the front, and of segment 2, next. The box answers with the
+/// code and the train hears it, on both engines; the atomic line has the code too.
+fn lock_answered(sensor: bool, [lock, front, next]: [u8; 3], code: u8) {
+    let table = read_table(&S).unwrap();
+    let mut line = start_line(&table);
+    line.trains[0].message = Message::Sent(Request { wish: Wish::Lock, number: 2 });
+    line.boxes[1] = BoxState { sensor, position: 2, lock, reserved: [front, next, 0] };
+    let mut due = line.boxes.clone();
+    if code == 0 {
+        (due[1].lock, due[1].position) = (1, 1);
+    }
+    let mut quick = Record::of(&line).fast_line();
+    for (kind, message) in [(3, [2, 2, 2, code]), (4, [0; 4])] {
+        go_on(&mut line, &[([kind, 1, 0], code)]);
+        assert_eq!(quick.step_checked([kind, 1, 0]), code);
+        assert_eq!((&line.boxes, recorded(&line, 0)), (&due, [false, false, kind == 4 && code == 0]));
+        assert_eq!(train_numbers(&line, 0)[7..], message);
+        assert!(same(&line, &quick));
+    }
+    let mut whole = WholeLine::start(&table);
+    whole.boxes[1] = WholeBox { sensor, position: 2, lock, holders: [front, next, 0] };
+    assert_eq!(whole.take([2, 1, 2]), code);
+    assert_eq!((whole.boxes[1].lock, whole.boxes[1].position), (due[1].lock, due[1].position));
+}
+
+/// 23 is for a sensor active with no other train's lock, whatever is reserved.
+#[test]
+fn sensor_with_no_other_lock() {
+    for lock in [0, 1] {
+        lock_answered(true, [lock, 1, 1], 23);
+        for [front, next] in [[0, 1], [2, 1], [1, 0], [1, 2], [0, 0], [2, 2]] {
+            lock_answered(true, [lock, front, next], 23);
+        }
+    }
+}
+
+/// 24 comes first, with the sensor active and passive, whatever is reserved.
+#[test]
+fn lock_of_another_first() {
+    for sensor in [false, true] {
+        for [front, next] in [[1, 1], [0, 1], [2, 1], [1, 0], [1, 2], [0, 0], [2, 2]] {
+            lock_answered(sensor, [2, front, next], 24);
+        }
+    }
+}
+
+/// 25 comes last: the sensor is passive and no other train has the lock.
+#[test]
+fn reservation_missing_last() {
+    for lock in [0, 1] {
+        for [front, next] in [[0, 1], [2, 1], [1, 0], [1, 2], [0, 0], [2, 2]] {
+            lock_answered(false, [lock, front, next], 25);
+        }
+        lock_answered(false, [lock, 1, 1], 0);
+    }
+}
+
+/// An answer of 23 or 24 under way passes 27 and is heard; the train may then ask again.
+#[test]
+fn locks_refused_are_heard() {
+    for code in [23, 24] {
+        let mut line = start_line(&read_table(&S).unwrap());
+        line.trains[0].message = Message::Answered(Request { wish: Wish::Lock, number: 2 }, code);
+        let boxes = line.boxes.clone();
+        go_on(&mut line, &[([2, 1, 2], 15), ([3, 1, 0], 21), ([4, 1, 0], code), ([4, 1, 0], 21)]);
+        assert_eq!((&line.boxes, recorded(&line, 0)), (&boxes, [false; 3]));
+        go_on(&mut line, &ask(2, 1, 2, 25));
+    }
 }
 
 #[test]

@@ -1,7 +1,8 @@
 //! Prints generated cases as theorems about the definitions of the crate `rules`, each proved by
 //! computing: codes and bytes of files, the writer's buffer, routes, printouts, lines, places, orders,
 //! atomic lines, atomic steps that are stopped, and single steps on records made up from lines that
-//! steps have reached. `tools/compare-definitions` has them checked.
+//! steps have reached, among them locks answered and heard, with all that a box can find in turn.
+//! `tools/compare-definitions` has them checked.
 //! Arguments: seed, number of cases, steps per case.
 
 use std::fmt::Display;
@@ -9,21 +10,28 @@ use std::fmt::Display;
 use reference::argument::argument;
 use reference::atomic::{atomic_order, fold_places, WholeLine};
 use reference::generate::damage::damaged_file;
+use reference::generate::lock_asked::{LockAsked, LOCKS_ASKED};
+use reference::generate::made_up::{lock_changes, step_on, Aim};
 use reference::generate::prng::Prng;
 use reference::generate::steps::{drive, Driver};
 use reference::generate::tables::{accepted_table, largest_table};
 use reference::line::*;
 use reference::numbers::{ends_of_next, line_numbers, recorded};
 use reference::printout::printout;
+use reference::record::Record;
 use reference::refusal::numbers_of;
 use reference::step::{step_checked, Step};
-use reference::table::{Table, POINT};
+use reference::step_request::is_point;
+use reference::table::{Table, TrainEntry};
 use reference::table_read::read_table;
 use reference::table_write::{file_bytes, write_table};
+
+const S: &[u8] = include_bytes!("../../../samples/s/net");
 
 fn main() {
     let (seed, cases, steps) = (argument(1, 1), argument(2, 60), argument(3, 40));
     print!("{HEADER}");
+    contest();
     for case in 0..cases {
         let mut rng = Prng::for_case(seed, case);
         let table = match case % 12 {
@@ -35,6 +43,7 @@ fn main() {
         damaged_case(&mut rng, case, &table);
         atomic_case(&mut rng, case, &table, steps as usize);
         made_up_case(&mut rng, case, &table, steps as usize);
+        lock_case(&mut rng, case, steps as usize);
     }
 }
 
@@ -222,7 +231,7 @@ fn atomic_case(rng: &mut Prng, case: u64, table: &Table, steps: usize) {
         return;
     }
     let mut whole = WholeLine::start(table);
-    let (mut taken, mut codes) = (Vec::new(), Vec::new());
+    let mut taken = Vec::new();
     for _ in 0..steps {
         let train = rng.between(1, k);
         let (entry, place) = (&table.trains[train - 1], whole.trains[train - 1].place);
@@ -235,17 +244,30 @@ fn atomic_case(rng: &mut Prng, case: u64, table: &Table, steps: usize) {
             _ => 0,
         };
         let bytes = [kind, train as u8, number];
-        codes.push(whole.take(bytes));
+        whole.take(bytes);
         taken.push(bytes);
     }
+    atomic_answers(&format!("free-{case}"), table, &taken);
+}
+
+/// Two trains abreast on the track of table S: the second asks for the lock of their point while the first has it,
+/// crosses the point and has cleared it.
+fn contest() {
+    let mut table = read_table(S).expect("table S is accepted");
+    table.trains = [2, 3].map(|first| TrainEntry { direction: 0, route: vec![first, 4] }).into();
+    let taken = [[1, 1, 3], [1, 1, 4], [2, 1, 3], [2, 2, 3], [5, 1, 0], [2, 2, 3], [6, 1, 0], [2, 2, 3]];
+    atomic_answers("contest", &table, &taken);
+}
+
+/// A theorem about the answers to a list of atomic steps and the line after it.
+fn atomic_answers(name: &str, table: &Table, taken: &[Step]) {
+    let mut whole = WholeLine::start(table);
+    let codes: Vec<u8> = taken.iter().map(|&bytes| whole.take(bytes)).collect();
     let mut numbers = vec![u8::from(codes.iter().any(|&code| code != 0))];
     numbers.extend(&codes);
     numbers.extend(whole_numbers(table, &whole));
-    theorem(
-        &format!("free-{case}"),
-        &format!("atomicAnswersTo {} {}", list(&file_bytes(table)), steps_text(&taken)),
-        &numbers,
-    );
+    let question = format!("atomicAnswersTo {} {}", list(&file_bytes(table)), steps_text(taken));
+    theorem(name, &question, &numbers);
 }
 
 /// A step on a record that differs in a few places from one that steps have reached.
@@ -264,15 +286,34 @@ fn made_up_case(rng: &mut Prng, case: u64, table: &Table, steps: usize) {
             alter_table(rng, &mut line.table);
         }
         let bytes = meant.unwrap_or_else(|| Driver::new(rng).next_step(rng, &line));
-        let mut after = line.clone();
-        let mut numbers = vec![step_checked(&mut after, bytes)];
-        numbers.extend(line_numbers(&after));
-        theorem(
-            &format!("made-up-{case}-{change}"),
-            &format!("checkedLine {} ({})", line_text(&line), step_text(bytes)),
-            &numbers,
-        );
+        checked_step(&format!("made-up-{case}-{change}"), &line, bytes);
     }
+}
+
+/// A theorem about a step on a record; the line after it.
+fn checked_step(name: &str, line: &Line, bytes: Step) -> Line {
+    let mut after = line.clone();
+    let mut numbers = vec![step_checked(&mut after, bytes)];
+    numbers.extend(line_numbers(&after));
+    theorem(name, &format!("checkedLine {} ({})", line_text(line), step_text(bytes)), &numbers);
+    after
+}
+
+/// A box's answer to a lock, with what it finds changed from a line that steps have reached, and the answer heard.
+fn lock_case(rng: &mut Prng, case: u64, steps: usize) {
+    let asked = LockAsked::all()[case as usize % LOCKS_ASKED];
+    let (reached, changes) = loop {
+        let mut line = start_line(&accepted_table(rng));
+        let length = rng.between(0, steps);
+        drive(rng, &mut line, length);
+        if let Some(changes) = lock_changes(rng, &line, asked) {
+            break (line, changes);
+        }
+    };
+    let line = Record::changed(&reached, &changes).line();
+    let answer = step_on(rng, &line, &changes, Aim::LockAsked);
+    let after = checked_step(&format!("lock-{case}"), &line, answer);
+    checked_step(&format!("lock-heard-{case}"), &after, [4, answer[1], 0]);
 }
 
 /// Puts another segment of the table at one place of a route as it stands, which then most often jumps.
@@ -291,7 +332,7 @@ fn alter_for_back(rng: &mut Prng, line: &mut Line) -> Option<Step> {
     let i = (0..k).map(|i| (i + first) % k).find(|&i| line.trains[i].next_segment().is_some())?;
     let (next, near, far, ahead) = ends_of_next(line, i)?;
     let (me, any) = (i as u8 + 1, rng.between(1, k) as u8);
-    let point = line.table.switch_box(ahead).is_some_and(|b| b.kind == POINT);
+    let point = is_point(line, ahead);
     let lock = rng.chance(if point { 60 } else { 10 });
     let (wish, number) = match lock {
         true => (Wish::LockBack, ahead),

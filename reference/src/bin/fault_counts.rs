@@ -47,9 +47,10 @@ fn main() {
     let (seed, cases, steps) = (argument(1, 1), argument(2, 300), argument(3, 600) as usize);
     println!("seed {seed}: {cases} cases of {steps} steps per fault; half are led by the faulty line");
     println!("demand 3: cases that break it; answers: cases with an answer that differs; state: cases");
-    println!("where boxes or places differ after some step; none: cases with none of the three");
+    println!("where boxes or places differ after some step; none: cases with none of these and no clause broken;");
+    println!("the clause Answered23 is none of demand 3, but stands beside it");
     println!(
-        "{:22} {:>5} {:>8} {:>7} {:>5} {:>4}  clauses broken, with cases",
+        "{:24} {:>5} {:>8} {:>7} {:>5} {:>4}  clauses broken, with cases",
         "step fault", "cases", "demand 3", "answers", "state", "none"
     );
     for &fault in [Fault::None].iter().chain(FAULTS).filter(|f| f.in_steps() || f.in_demand()) {
@@ -80,7 +81,7 @@ fn step_fault(fault: Fault, seed: u64, cases: u64, steps: usize) {
         let mut rng = Prng::for_case(seed, case);
         let table = accepted_table(&mut rng);
         let outcome = run_case(&table, fault, steps, case % 2 == 1, &mut rng);
-        demand += u64::from(!outcome.broken.is_empty());
+        demand += u64::from(outcome.broken.breaks_demand());
         answers += u64::from(outcome.answers_differ);
         state += u64::from(outcome.states_differ);
         let told = !outcome.broken.is_empty() || outcome.answers_differ || outcome.states_differ;
@@ -88,7 +89,7 @@ fn step_fault(fault: Fault, seed: u64, cases: u64, steps: usize) {
         clauses.add(outcome.broken);
     }
     let name = format!("{fault:?}");
-    println!("{name:22} {cases:5} {demand:8} {answers:7} {state:5} {none:4}  {}", clauses.text());
+    println!("{name:24} {cases:5} {demand:8} {answers:7} {state:5} {none:4}  {}", clauses.text());
 }
 
 fn reader_fault(fault: Fault, seed: u64, cases: u64, steps: usize) {
@@ -111,7 +112,7 @@ fn reader_fault(fault: Fault, seed: u64, cases: u64, steps: usize) {
                 }
                 draw_routes(&mut rng, &mut wrong, fault);
                 let outcome = run_case(&wrong, Fault::None, steps, false, &mut rng);
-                demand += u64::from(!outcome.broken.is_empty());
+                demand += u64::from(outcome.broken.breaks_demand());
                 clauses.add(outcome.broken);
             }
         }
@@ -128,9 +129,7 @@ fn record_fault(fault: Fault, seed: u64, cases: u64, steps: usize) {
         let mut line = start_line(&accepted_table(&mut rng));
         drive(&mut rng, &mut line, steps);
         for changes in AIMS.into_iter().filter_map(|aim| changes(&mut rng, &line, aim)) {
-            let mut record = Record::of(&line);
-            changes.iter().for_each(|&change| record.change(change));
-            let made_up = record.line();
+            let made_up = Record::changed(&line, &changes).line();
             let [right, faulty] = [Fault::None, fault].map(|fault| record_fault_with(&made_up, fault).is_some());
             records += 1;
             differ += u64::from(right != faulty);

@@ -6,6 +6,7 @@
 use reference::argument::argument;
 use reference::counts::{print_codes, CODES};
 use reference::generate::damage::damaged_file;
+use reference::generate::lock_asked::LockCounts;
 use reference::generate::prng::Prng;
 use reference::generate::steps::Driver;
 use reference::generate::tables::{accepted_table, largest_table};
@@ -22,6 +23,7 @@ fn main() {
     let mut file_codes = [0; CODES];
     let mut step_codes = [0; CODES];
     let mut messages = Messages::default();
+    let mut locks = LockCounts::default();
     // 11 and 28, in train 1 and in later ones, at places 1 to 4 and later ones.
     let mut places = [[[0; 5]; 2]; 2];
     let (mut refused, mut farthest, mut most) = (0, 0, [0; 4]);
@@ -55,6 +57,7 @@ fn main() {
         for _ in 0..steps {
             let bytes = driver.next_step(&mut rng, &line);
             let before = message_of(&line, bytes);
+            locks.add(&line, bytes);
             let code = step(&mut line, bytes);
             step_codes[code as usize] += 1;
             messages.add(&line, bytes, code, before);
@@ -78,6 +81,7 @@ fn main() {
         println!("{:4}  {counts:6?}", wish as u8);
     }
     let [again, handed_on] = messages.after_back;
+    print!("{locks}");
     println!("given back, then had again by the same train: {again}, by another one: {handed_on}");
 }
 

@@ -1,9 +1,11 @@
-//! Checks the third demand on generated steps over generated tables.
+//! Checks the third demand on generated steps over generated tables, and
+//! that none of them is answered 23.
 //! Arguments: seed, number of tables, steps per table.
 
 use reference::argument::argument;
 use reference::counts::refuses_step;
-use reference::demand::{Checker, Clauses, CLAUSES};
+use reference::demand::{Checker, Clause, Clauses, CLAUSES};
+use reference::generate::lock_asked::LockCounts;
 use reference::generate::prng::Prng;
 use reference::generate::steps::Driver;
 use reference::generate::tables::{accepted_table, largest_table};
@@ -16,8 +18,9 @@ use reference::table_write::file_bytes;
 fn main() {
     let (seed, tables, steps) = (argument(1, 1), argument(2, 1500), argument(3, 1000));
     let (mut violations, mut entered, mut cleared, mut back, mut atomic) = (0u64, 0u64, 0u64, 0u64, 0u64);
-    let (mut record_checks, mut record_faults) = (0u64, 0u64);
+    let (mut record_checks, mut record_faults, mut answered_23) = (0u64, 0u64, 0u64);
     let mut broken = Clauses::default();
+    let mut locks = LockCounts::default();
     for case in 0..tables {
         let mut rng = Prng::for_case(seed, case);
         let made = match case % 10 {
@@ -29,7 +32,8 @@ fn main() {
         let mut checker = Checker::new(&table, &line);
         let mut driver = Driver::new(&mut rng);
         let mut note = |clauses: Clauses| {
-            violations += u64::from(!clauses.is_empty());
+            violations += u64::from(clauses.breaks_demand());
+            answered_23 += u64::from(clauses.has(Clause::Answered23));
             broken.join(clauses);
         };
         note(checker.state_clauses(&line));
@@ -38,6 +42,7 @@ fn main() {
             // Now and then the checked entry must give the same line, and a
             // refused step must leave it as it was.
             let sample = (i % 16 == 0).then(|| line.clone());
+            locks.add(&line, bytes);
             let answer = step(&mut line, bytes);
             entered += u64::from(bytes[0] == 5 && answer == 0);
             cleared += u64::from(bytes[0] == 6 && answer == 0);
@@ -55,12 +60,14 @@ fn main() {
     }
     println!("seed {seed}: {tables} tables, {} steps", tables * steps);
     println!("entered {entered}, cleared {cleared}, give-backs sent {back}, atomic steps {atomic}");
+    let (all, crossed) = (locks.count(|_| true), locks.count(|asked| asked.sensor));
+    println!("locks answered {all}, {crossed} of them with an active sensor; steps answered 23: {answered_23}");
     println!("records checked against code 27: {record_checks}, faults {record_faults}");
     for clause in CLAUSES.into_iter().filter(|&c| broken.has(c)) {
         println!("broken: {clause:?}");
     }
     println!("{violations} violations");
-    if violations + record_faults > 0 {
+    if violations + record_faults + answered_23 > 0 {
         std::process::exit(1);
     }
 }

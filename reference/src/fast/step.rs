@@ -76,10 +76,10 @@ impl Line {
             Wish::Lock => {
                 let state = &mut self.boxes[usize::from(around.ahead) - 1];
                 let holds = |slot: u16| self.holders[usize::from(slot)] == me;
-                if state.sensor {
-                    23
-                } else if state.lock != 0 && state.lock != me {
+                if state.lock != 0 && state.lock != me {
                     24
+                } else if state.sensor {
+                    23
                 } else if !(holds(around.front_ahead) && holds(around.next_ahead)) {
                     25
                 } else {

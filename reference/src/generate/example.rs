@@ -1,16 +1,16 @@
 //! An example of a code: a table file and what is done with it, its answer, and its text.
 
-use crate::line::{start_line, Line};
+use crate::line::start_line;
 use crate::record::{Change, Record};
 use crate::refusal::code_of;
-use crate::step::{step, step_checked, Step};
+use crate::step::{step_checked, Step};
 use crate::table::*;
 use crate::table_read::read_table;
 use crate::table_write::write_table;
 use std::fmt::Write;
 
-/// A file alone; or an accepted file with a list of steps, with one field of the record changed before
-/// the last of them where there is a change; or an accepted file with the length of a buffer to write it to.
+/// A file alone; or an accepted file with a list of steps, with one field of the start line's record changed
+/// before them where there is a change; or an accepted file with the length of a buffer to write it to.
 #[derive(Clone, Debug, PartialEq, Eq, Default)]
 pub struct Example {
     pub file: Vec<u8>,
@@ -38,16 +38,10 @@ impl Example {
     }
 
     /// The codes of the steps.
-    fn answers(&self, table: &Table) -> Vec<u8> {
-        let mut line = start_line(table);
-        let mut codes = Vec::new();
-        for (i, &bytes) in self.steps.iter().enumerate() {
-            codes.push(match self.change {
-                Some(change) if i + 1 == self.steps.len() => step_checked(&mut changed(&line, change), bytes),
-                _ => step(&mut line, bytes),
-            });
-        }
-        codes
+    pub fn answers(&self, table: &Table) -> Vec<u8> {
+        let changes = self.change.as_slice();
+        let mut line = Record::changed(&start_line(table), changes).line();
+        self.steps.iter().map(|&bytes| step_checked(&mut line, bytes)).collect()
     }
 
     /// The example as text: the bytes of a record a line, then each step with its answer, with words.
@@ -56,12 +50,11 @@ impl Example {
         let Ok(table) = read_table(&self.file) else {
             return text;
         };
-        let answers = self.answers(&table);
-        for (i, (&bytes, code)) in self.steps.iter().zip(answers).enumerate() {
-            if let (Some([_, index, field, value]), true) = (self.change, i + 1 == self.steps.len()) {
-                let left = format!("box {}, {}: {value}", index + 1, BOX_FIELDS[field as usize]);
-                add(&mut text, &left, "the field of the line record is changed by hand");
-            }
+        if let Some([_, index, field, value]) = self.change {
+            let left = format!("box {}, {}: {value}", index + 1, BOX_FIELDS[field as usize]);
+            add(&mut text, &left, "the field of the line record is changed by hand");
+        }
+        for (&bytes, code) in self.steps.iter().zip(self.answers(&table)) {
             let [kind, train, number] = bytes;
             add(&mut text, &format!("({kind}, {train}, {number})"), &format!("{}: {code}", step_words(bytes)));
         }
@@ -71,13 +64,6 @@ impl Example {
         }
         text
     }
-}
-
-/// The line with one field of its record changed.
-fn changed(line: &Line, change: Change) -> Line {
-    let mut record = Record::of(line);
-    record.change(change);
-    record.line()
 }
 
 /// A line of text: bytes on the left, words on the right.

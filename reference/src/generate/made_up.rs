@@ -1,12 +1,14 @@
 //! Made-up records: changes of a line that steps have reached, directed at one clause of code 27 or
 //! at none. What comes out has to be looked at: a change may miss its aim.
 
+use super::lock_asked::{Holder, LockAsked};
 use super::prng::Prng;
 use crate::line::*;
 use crate::line_check::RecordFault;
 use crate::numbers::ends_of_next;
 use crate::record::Change;
 use crate::step::Step;
+use crate::step_request::is_point;
 use crate::table::*;
 
 /// What a made-up record is to break.
@@ -45,9 +47,13 @@ pub enum Aim {
     BackCode(u8),
     /// Nothing: the record passes.
     Nothing,
+    /// Nothing: a box is to answer a lock, with anything that it can find there.
+    LockAsked,
+    /// Nothing: a train is to hear this code in answer to a lock.
+    LockHeard(u8),
 }
 
-pub const AIMS: [Aim; 35] = [
+pub const AIMS: [Aim; 40] = [
     Aim::Table(3),
     Aim::Table(4),
     Aim::Table(6),
@@ -83,6 +89,11 @@ pub const AIMS: [Aim; 35] = [
     Aim::BackCode(7),
     Aim::BackCode(8),
     Aim::Nothing,
+    Aim::LockAsked,
+    Aim::LockHeard(0),
+    Aim::LockHeard(23),
+    Aim::LockHeard(24),
+    Aim::LockHeard(25),
 ];
 
 impl Aim {
@@ -99,7 +110,7 @@ impl Aim {
             Aim::LockHolder | Aim::StemHolder | Aim::LeftHolder | Aim::RightHolder => RecordFault::Holder,
             Aim::NoNext | Aim::WrongBox | Aim::BackNoNext(_) | Aim::BackWrongBox(_) => RecordFault::Message,
             Aim::AnswerCode | Aim::BackCode(_) => RecordFault::AnswerCode,
-            Aim::Nothing => return None,
+            Aim::Nothing | Aim::LockAsked | Aim::LockHeard(_) => return None,
         })
     }
 }
@@ -130,12 +141,48 @@ pub fn changes(rng: &mut Prng, line: &Line, aim: Aim) -> Option<Vec<Change>> {
         };
         return Some(vec![[b'b', b, 1, rng.pick(wrong)]]);
     }
-    if aim == Aim::Nothing {
-        return Some(harmless(rng, line));
+    match aim {
+        Aim::Nothing => return Some(harmless(rng, line)),
+        Aim::LockAsked => {
+            let asked = rng.pick(&LockAsked::all());
+            return lock_changes(rng, line, asked);
+        }
+        _ => {}
     }
-    let fitting: Vec<usize> = (0..k).filter(|&i| fits(line, i, aim)).collect();
-    let i = *fitting.get(rng.below(fitting.len()))?;
+    let i = fitting_train(rng, line, aim)?;
     Some(train_changes(rng, line, i, aim))
+}
+
+/// A train that the aim can be had of, if there is one.
+fn fitting_train(rng: &mut Prng, line: &Line, aim: Aim) -> Option<usize> {
+    let fitting: Vec<usize> = (0..line.trains.len()).filter(|&i| fits(line, i, aim)).collect();
+    fitting.get(rng.below(fitting.len())).copied()
+}
+
+/// A train before a point has asked for its lock, and this is what the box finds; `None` where no train is before a
+/// point, or where there is no other train to hold something.
+pub fn lock_changes(rng: &mut Prng, line: &Line, asked: LockAsked) -> Option<Vec<Change>> {
+    let i = fitting_train(rng, line, Aim::LockAsked)?;
+    let (next, _, _, ahead) = ends_of_next(line, i)?;
+    let plan = line.table.switch_box(ahead)?;
+    let (front_place, next_place) = (plan.place_of(line.trains[i].front_segment())?, plan.place_of(next)?);
+    let me = i as u8 + 1;
+    let others: Vec<u8> = (1..=line.trains.len() as u8).filter(|&train| train != me).collect();
+    let mut held = |field: usize, holder: Holder| {
+        let train = match holder {
+            Holder::Nobody => 0,
+            Holder::Asker => me,
+            Holder::Another => *others.get(rng.below(others.len()))?,
+        };
+        Some([b'b', ahead - 1, field as u8, train])
+    };
+    Some(vec![
+        message_field(i as u8, Wish::Lock, false, ahead),
+        [b'b', ahead - 1, 0, u8::from(asked.sensor)],
+        held(2, asked.lock)?,
+        held(3 + front_place, asked.front)?,
+        held(3 + next_place, asked.next)?,
+    ])
 }
 
 /// Whether the train is one that the aim can be had of, with nothing else at fault.
@@ -152,6 +199,7 @@ fn fits(line: &Line, i: usize, aim: Aim) -> bool {
         Aim::TailOutside => train.front == 0,
         Aim::CoversThree => idle && train.route.len() >= 3,
         Aim::WrongBox | Aim::AnswerCode | Aim::BackWrongBox(_) | Aim::BackCode(_) => train.next_segment().is_some(),
+        Aim::LockAsked | Aim::LockHeard(_) => ends_of_next(line, i).is_some_and(|(.., ahead)| is_point(line, ahead)),
         _ => true,
     }
 }
@@ -200,6 +248,7 @@ fn train_changes(rng: &mut Prng, line: &Line, i: usize, aim: Aim) -> Vec<Change>
             let (wish, answered) = (wish_of(rng, aim), rng.chance(50));
             vec![message_field(t, wish, answered, number)]
         }
+        Aim::LockHeard(code) => vec![message_field(t, Wish::Lock, true, line.box_ahead(i)), [b'm', t, 5, code]],
         _ => {
             let (ahead, wish) = (line.box_ahead(i), wish_of(rng, aim));
             let code = match aim {
@@ -426,8 +475,14 @@ fn one_train_less(line: &Line) -> Vec<Change> {
     all
 }
 
-/// A step for a made-up line, of a train that its changes are about where there is one.
-pub fn step_on(rng: &mut Prng, line: &Line, changes: &[Change]) -> Step {
+/// A step for a made-up line: the one that the aim is about, else one of a train that its changes are about where there
+/// is one.
+pub fn step_on(rng: &mut Prng, line: &Line, changes: &[Change], aim: Aim) -> Step {
+    match (aim, changes) {
+        (Aim::LockAsked, &[[_, train, ..], ..]) => return [3, train + 1, 0],
+        (Aim::LockHeard(_), &[[_, train, ..], ..]) => return [4, train + 1, 0],
+        _ => {}
+    }
     let k = line.trains.len();
     let about = changes.iter().find(|c| matches!(c[0], b't' | b'm') && (c[1] as usize) < k);
     let i = match about {

@@ -5,6 +5,7 @@
 pub mod damage;
 pub mod draft;
 pub mod example;
+pub mod lock_asked;
 pub mod made_up;
 pub mod outside;
 pub mod prng;

@@ -3,8 +3,11 @@
 //! - Accepted files: fewer bytes are smaller, then lower bytes, the first that differs deciding.
 //! - Refused files (1 to 12 and 28): fewer bytes are smaller; then fewer places that differ from the smallest
 //!   accepted file, as far as both go, so that little but the fault is wrong; then lower bytes.
-//! - Steps (13 to 25 and 29): the smallest accepted file on which some list of steps has the code, and the
-//!   shortest such list; among lists of one length the one with the lowest bytes.
+//! - Steps (13 to 22, 24, 25 and 29): the smallest accepted file on which some list of steps has the code, and
+//!   the shortest such list; among lists of one length the one with the lowest bytes.
+//! - A sensor active with no other train's lock (23), which no list of steps leads to: the smallest accepted file
+//!   on which some list has the code after one field of a box in the start line's record was changed; the first
+//!   such field and its lowest value; then the list as for other steps.
 //! - A short buffer (26): the smallest accepted file and one byte less.
 //! - Line records (27): the start line of the smallest accepted file with one field of a box changed, the
 //!   first field and the lowest value that the check finds, and the lowest step.
@@ -17,8 +20,10 @@
 
 use super::example::Example;
 use super::small_tables::{Files, HEAD};
-use crate::counts::refuses_step;
-use crate::line::start_line;
+use crate::counts::{refuses_step, FILE_CODES};
+use crate::line::{start_line, Line};
+use crate::line_check::record_code;
+use crate::record::{Change, Record};
 use crate::refusal::code_of;
 use crate::step::{step, Step};
 use crate::table::*;
@@ -28,10 +33,10 @@ use std::collections::{HashSet, VecDeque};
 
 /// No example needs a longer file.
 const LONGEST: usize = 60;
-/// The codes of steps, in the order of their numbers; those of other examples stand before the last of them.
-const STEP_CODES: [u8; 14] = [13, 14, 15, 16, 17, 18, 19, 20, 21, 22, 23, 24, 25, 29];
+/// The codes that some list of steps has.
+const STEP_CODES: [u8; 13] = [13, 14, 15, 16, 17, 18, 19, 20, 21, 22, 24, 25, 29];
 
-/// The examples of the codes 1 to 29.
+/// The examples of the codes 1 to 29, in the order of their numbers.
 pub fn smallest_examples() -> Vec<Example> {
     let accepted = smallest_accepted();
     let refused = |code: u8| {
@@ -42,10 +47,12 @@ pub fn smallest_examples() -> Vec<Example> {
         Example { file: file.expect("the code is found"), ..Example::default() }
     };
     let short = Example { buffer: Some(accepted.len() - 1), file: accepted.clone(), ..Example::default() };
-    let mut steps = step_examples();
-    let last = steps.split_off(STEP_CODES.len() - 1);
-    let others = steps.into_iter().chain([short, changed_record(&accepted)]);
-    (1..=12).map(refused).chain(others).chain([refused(28)]).chain(last).collect()
+    let others = [(23, changed_box()), (26, short), (27, changed_record(&accepted))];
+    let mut examples: Vec<(u8, Example)> = FILE_CODES.map(|code| (code, refused(code))).into();
+    examples.extend(STEP_CODES.into_iter().zip(step_examples()));
+    examples.extend(others);
+    examples.sort_by_key(|&(code, _)| code);
+    examples.into_iter().map(|(_, example)| example).collect()
 }
 
 /// The smallest accepted file.
@@ -108,25 +115,25 @@ fn add_examples(examples: &mut [Option<Example>], table: &Table) {
     if codes.is_empty() || read_table(&file).is_err() {
         return;
     }
-    for (code, steps) in shortest_lists(table, &codes) {
+    for (code, steps) in shortest_lists(&start_line(table), &codes) {
         let place = STEP_CODES.iter().position(|&other| other == code).expect("a code of steps");
         examples[place] = Some(Example { file: file.clone(), steps, ..Example::default() });
     }
 }
 
-/// The fewest trains with which a code can come: 22 to 24 need another train than the one that asks.
+/// The fewest trains with which a code can come: 22 and 24 need another train than the one that asks.
 fn trains_for(code: u8) -> usize {
     match code {
         13 | 14 => 0,
-        22..=24 => 2,
+        22 | 24 => 2,
         _ => 1,
     }
 }
 
-/// Whether a list of steps on the table may have the code. 23 to 25 answer a request for a lock, which a
-/// train can send only if its route passes a point (17); 23 and 24 need another such train, which has got
-/// the lock: a point is entered with its lock alone (19).
-fn may_show(table: &Table, code: u8) -> bool {
+/// Whether a list of steps on the table may have the code, 23 with a field of a box changed. 23 to 25 answer a
+/// request for a lock, which a train can send only if its route passes a point (17); 24 needs another such train,
+/// which has got the lock.
+pub fn may_show(table: &Table, code: u8) -> bool {
     let is_point = |number: u8| table.switch_box(number).is_some_and(|b| b.kind == POINT);
     let over_point = |t: &&TrainEntry| t.route.windows(2).any(|w| is_point(table.far_box(w[0], t.direction)));
     let lockers = table.trains.iter().filter(over_point).count();
@@ -134,14 +141,13 @@ fn may_show(table: &Table, code: u8) -> bool {
     needed >= trains_for(code)
 }
 
-/// For each of the codes that some list of steps ends with, the first such list: breadth first, the lowest
-/// steps first.
-fn shortest_lists(table: &Table, codes: &[u8]) -> Vec<(u8, Vec<Step>)> {
-    let start = start_line(table);
+/// For each of the codes that some list of steps from a line whose record holds ends with, the first such list:
+/// breadth first, the lowest steps first. A list goes on while the record holds.
+fn shortest_lists(start: &Line, codes: &[u8]) -> Vec<(u8, Vec<Step>)> {
     let mut seen = HashSet::from([(start.boxes.clone(), start.trains.clone())]);
-    let mut open = VecDeque::from([(start, Vec::<Step>::new())]);
+    let mut open = VecDeque::from([(start.clone(), Vec::<Step>::new())]);
     let mut found: Vec<(u8, Vec<Step>)> = Vec::new();
-    let steps = steps_of(table);
+    let steps = steps_of(&start.table);
     while let Some((line, taken)) = open.pop_front() {
         for &bytes in &steps {
             let mut after = line.clone();
@@ -150,7 +156,8 @@ fn shortest_lists(table: &Table, codes: &[u8]) -> Vec<(u8, Vec<Step>)> {
             if codes.contains(&code) && found.iter().all(|&(other, _)| other != code) {
                 found.push((code, list()));
             }
-            if !refuses_step(code) && seen.insert((after.boxes.clone(), after.trains.clone())) {
+            let new = !refuses_step(code) && seen.insert((after.boxes.clone(), after.trains.clone()));
+            if new && record_code(&after) == 0 {
                 open.push_back((after, list()));
             }
         }
@@ -169,16 +176,37 @@ fn steps_of(table: &Table) -> Vec<Step> {
     (0..=9).flat_map(trains).collect()
 }
 
+/// The changes of a field of a box: box by box, field by field, the lowest value first.
+fn box_changes(boxes: u8) -> impl Iterator<Item = Change> {
+    let fields = (0..boxes).flat_map(|index| (0..6).map(move |field| (index, field)));
+    fields.flat_map(|(index, field)| (0..=255).map(move |value| [b'b', index, field, value]))
+}
+
+/// The example of code 23.
+fn changed_box() -> Example {
+    let first = |table: &Table| {
+        let file = file_bytes(table);
+        if !may_show(table, 23) || read_table(&file).is_err() {
+            return None;
+        }
+        let start = start_line(table);
+        box_changes(table.boxes.len() as u8).find_map(|change| {
+            let line = Some(Record::changed(&start, &[change]).line()).filter(|line| record_code(line) == 0)?;
+            let (_, steps) = shortest_lists(&line, &[23]).pop()?;
+            Some(Example { file: file.clone(), steps, change: Some(change), ..Example::default() })
+        })
+    };
+    let found = (0..LONGEST).find_map(|length| Files::accepted(length, trains_for(23)).first(&mut { first }));
+    found.expect("the code is found")
+}
+
 /// The example of code 27.
 fn changed_record(accepted: &[u8]) -> Example {
-    let m = accepted[6];
-    let fields = (0..m).flat_map(|index| (0..6).map(move |field| (index, field)));
-    let changes = fields.flat_map(|(index, field)| (0..=255).map(move |value| [b'b', index, field, value]));
     let example = |change| Example {
         file: accepted.to_vec(),
         steps: vec![[0, 0, 0]],
         change: Some(change),
         ..Example::default()
     };
-    changes.map(example).find(|example| example.answer() == 27).expect("some change is found")
+    box_changes(accepted[6]).map(example).find(|example| example.answer() == 27).expect("some change is found")
 }

@@ -5,7 +5,7 @@
 use super::prng::Prng;
 use crate::line::*;
 use crate::step::{step, Step};
-use crate::table::POINT;
+use crate::step_request::is_point;
 
 /// How the steps are mixed, in percent; the rest is garbage.
 #[derive(Clone, Copy, Debug)]
@@ -151,7 +151,7 @@ fn all_needed(line: &Line, train: usize) -> Vec<(Step, bool)> {
     let ends = [ahead, line.table.far_box(next, t.direction)];
     let mut all: Vec<(Step, bool)> =
         ends.map(|number| ([1, me, number], t.holdings.reservation(&line.table, next, number))).to_vec();
-    if line.table.switch_box(ahead).is_some_and(|b| b.kind == POINT) {
+    if is_point(line, ahead) {
         all.push(([2, me, ahead], t.holdings.lock(ahead)));
     }
     all
@@ -248,19 +248,18 @@ impl Driver {
     }
 }
 
-/// A train asks for a lock, or is answered, where another crosses or holds
-/// the lock.
+/// A train asks for the lock of a point that another crosses or has locked,
+/// and is answered, after whatever message it has.
 fn meddling(line: &Line) -> Option<Step> {
     (0..line.trains.len()).find_map(|train| {
-        let me = (train + 1) as u8;
-        let ahead = line.box_ahead(train);
-        let state = line.box_state(ahead)?;
+        let (t, me, ahead) = (&line.trains[train], (train + 1) as u8, line.box_ahead(train));
+        let state = line.box_state(ahead).filter(|_| is_point(line, ahead))?;
         let busy = state.sensor || (state.lock != 0 && state.lock != me);
-        let lock = Request { wish: Wish::Lock, number: ahead };
-        match line.trains[train].message {
-            Message::None if busy => Some([2, me, ahead]),
-            Message::Sent(request) if busy && request == lock => Some([3, me, 0]),
-            _ => None,
-        }
+        t.next_segment().filter(|_| busy)?;
+        Some(match t.message {
+            Message::None => [2, me, ahead],
+            Message::Sent(_) => [3, me, 0],
+            Message::Answered(..) => [4, me, 0],
+        })
     })
 }

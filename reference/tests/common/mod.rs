@@ -3,7 +3,10 @@
 
 pub mod page;
 
+use reference::fast;
+use reference::fault::Fault;
 use reference::line::{start_line, Line};
+use reference::numbers::{box_numbers, train_numbers};
 use reference::refusal::Refusal;
 use reference::step::{step, step_checked, Step};
 use reference::table::{Segment, SwitchBox, Table, TrainEntry};
@@ -12,6 +15,19 @@ use reference::table_read::read_table;
 pub const S: [u8; 46] = [
     0x4E, 0x45, 0x54, 0x00, 0x01, 0x04, 0x04, 0x02, 1, 2, 2, 3, 2, 3, 3, 4, 0, 1, 0, 0, 0, 2, 1, 2,
     3, 1, 2, 4, 2, 3, 1, 0, 4, 0, 0, 0, 0, 3, 1, 2, 4, 1, 3, 4, 3, 1,
+];
+
+/// Faults in the steps that no list of steps from the start of an accepted table shows; the first two of them no
+/// made-up record shows either.
+pub const UNSEEN: [Fault; 8] = [
+    Fault::NextBeforeMessage,
+    Fault::RecordsKept,
+    Fault::OwnSegmentRefused,
+    Fault::SensorNotAsked,
+    Fault::ReservationsBeforeSensor,
+    Fault::LockNeedsNextOnly,
+    Fault::BackMayBeRefused,
+    Fault::BackFreesAnyone,
 ];
 
 /// Table S with other trains.
@@ -54,6 +70,12 @@ pub fn go_on(line: &mut Line, steps: &[(Step, u8)]) {
         assert_eq!(step(line, bytes), code, "step {} {bytes:?}", i + 1);
         assert_eq!(*line, checked);
     }
+}
+
+/// Whether all trains and boxes of both engines' lines are the same.
+pub fn same(line: &Line, quick: &fast::Line) -> bool {
+    (0..line.trains.len()).all(|i| train_numbers(line, i) == quick.train_numbers(i))
+        && (0..line.boxes.len()).all(|i| box_numbers(&line.boxes[i]) == quick.box_numbers(i))
 }
 
 /// Request, answer and hear, all with the code of the answer.

@@ -1,6 +1,7 @@
 //! A corpus under way: its records, the text for them, and what has been counted.
 
 use reference::counts::Counts;
+use reference::generate::lock_asked::LockCounts;
 use reference::generate::made_up::{Aim, AIMS};
 use reference::line::{start_line, Line};
 use reference::line_check::record_code;
@@ -47,6 +48,9 @@ pub struct Corpus {
     /// Codes of the steps of lists, and of those on made-up records.
     pub list_codes: Counts,
     pub made_up_codes: Counts,
+    /// What boxes find that answer a lock, in lists and on made-up records.
+    pub list_locks: LockCounts,
+    pub made_up_locks: LockCounts,
     /// How many made-up records have each aim.
     pub aims: Vec<usize>,
     steps: Vec<u8>,
@@ -92,7 +96,7 @@ impl Corpus {
         self.records.extend_from_slice(steps);
         self.steps = steps.to_vec();
         let run = Run { file: self.base.clone(), steps: steps.to_vec() };
-        let answers = run_text(&mut self.text, &run);
+        let answers = run_text(&mut self.text, &run, &mut self.list_locks);
         for code in answers {
             self.list_codes[code as usize] += 1;
         }
@@ -102,22 +106,25 @@ impl Corpus {
     /// The line that the first `taken` bytes of the last list of steps lead to from the base file.
     pub fn line_after(&self, taken: usize) -> Line {
         let table = read_table(&self.base).expect("the base file is accepted");
-        run_steps(&table, &self.steps[..taken]).0
+        run_steps(&table, &self.steps[..taken], &mut LockCounts::default()).0
     }
 
-    /// A step on this line with changes.
-    pub fn made_up(&mut self, taken: usize, changes: &[Change], bytes: Step, aim: Aim) {
+    /// A step on this line with changes; its code.
+    pub fn made_up(&mut self, taken: usize, changes: &[Change], bytes: Step, aim: Aim) -> u8 {
         self.records.push(b'M');
         self.number(taken);
         self.records.push(u8::try_from(changes.len()).expect("a number of changes has one byte"));
         self.records.extend(changes.concat());
         self.records.extend(bytes);
-        let mut record = Record::of(&self.line_after(taken));
-        changes.iter().for_each(|&change| record.change(change));
+        let record = Record::changed(&self.line_after(taken), changes);
         let code = made_up_text(&mut self.text, &record, bytes);
         self.made_up_codes[code as usize] += 1;
+        if code != 27 {
+            self.made_up_locks.add(&record.line(), bytes);
+        }
         self.aims[AIMS.iter().position(|&a| a == aim).expect("all aims are listed")] += 1;
         self.made_up.push(MadeUp { record, step: bytes });
+        code
     }
 
     fn number(&mut self, number: usize) {
@@ -159,11 +166,15 @@ fn answer<T>(result: &Result<T, Refusal>) -> String {
     result.as_ref().err().map_or("0".into(), |refusal| refusal.text(','))
 }
 
-/// The line after the steps in these bytes, and the answers, a last step of one or two bytes among them.
-fn run_steps(table: &Table, steps: &[u8]) -> (Line, Vec<u8>) {
+/// The line after the steps in these bytes, and the answers, a last step of one or two bytes among them; locks are
+/// counted.
+fn run_steps(table: &Table, steps: &[u8], locks: &mut LockCounts) -> (Line, Vec<u8>) {
     let mut line = start_line(table);
     let answer = |bytes: &[u8]| match bytes.try_into() {
-        Ok(whole) => step(&mut line, whole),
+        Ok(whole) => {
+            locks.add(&line, whole);
+            step(&mut line, whole)
+        }
         Err(_) => 13,
     };
     let answers = steps.chunks(3).map(answer).collect();
@@ -171,12 +182,12 @@ fn run_steps(table: &Table, steps: &[u8]) -> (Line, Vec<u8>) {
 }
 
 /// The line of the text for a list of steps; its answers.
-fn run_text(text: &mut String, run: &Run) -> Vec<u8> {
+fn run_text(text: &mut String, run: &Run, locks: &mut LockCounts) -> Vec<u8> {
     let count = run.steps.len().div_ceil(3);
     let table = read_table(&run.file);
     let (line, answers) = match &table {
         Err(_) => (Line::default(), vec![]),
-        Ok(table) => run_steps(table, &run.steps),
+        Ok(table) => run_steps(table, &run.steps, locks),
     };
     let mut buffer = answers.clone();
     buffer.resize(count + 1, UNUSED);

@@ -1,26 +1,28 @@
 //! The lists of steps and the made-up records of the corpus.
 
 use crate::corpus::{Corpus, S, SEED};
-use reference::generate::made_up::{changes, step_on, Aim, AIMS};
+use reference::generate::lock_asked::LockAsked;
+use reference::generate::made_up::{changes, lock_changes, step_on, Aim, AIMS};
 use reference::generate::prng::Prng;
 use reference::generate::steps::{drive, step_bytes};
 use reference::generate::tables::{accepted_table, largest_table};
 use reference::line::{start_line, Line};
 use reference::line_check::record_fault;
 use reference::record::{Change, Record};
-use reference::step::Step;
+use reference::step::{step, Step};
 use reference::table::*;
 use reference::table_read::read_table;
 
 const S_STEPS: &[u8] = include_bytes!("../../../../samples/s/steps");
-/// Codes that few lists have, and how many steps have each of them at least.
-const RARE: [u8; 4] = [23, 24, 18, 29];
+/// What few lists have: a code, and of 24 at the box whether the sensor is active; and how many steps have it at least.
+const RARE: [(u8, Option<bool>); 4] = [(18, None), (29, None), (24, Some(false)), (24, Some(true))];
 const FEWEST_RARE: usize = 30;
 /// How many made-up records each aim has at least; how many tables there are for them at
-/// least, and how many records pass for each.
+/// least, and how many records pass for each, and answer a lock.
 pub const FEWEST_AIMED: usize = 6;
 const TABLES: u64 = 16;
 const PASSING: usize = 28;
+const LOCKS: usize = 4;
 
 /// A request or a give-back, its answer, and the answer heard.
 fn asked(kind: u8, train: u8, number: u8) -> Vec<u8> {
@@ -37,6 +39,7 @@ pub fn paper_lists(corpus: &mut Corpus) {
     let passage = [asked(1, 1, 2), asked(1, 1, 3), asked(2, 1, 2), vec![5, 1, 0, 6, 1, 0]].concat();
     corpus.steps(&passage);
     records_of_s(corpus);
+    locks_of_s(corpus);
     // The lock of the box being crossed is recorded, and neither asked for nor given back there.
     corpus.steps(&[&passage[..30], &[2, 1, 2, 8, 1, 2, 1, 1, 2, 7, 1, 2, 7, 1, 3, 8, 1, 3]].concat());
     corpus.steps(&[asked(1, 1, 2), vec![1, 1, 2, 1, 1, 4]].concat());
@@ -88,7 +91,6 @@ pub fn paper_lists(corpus: &mut Corpus) {
 /// Made-up records of train 1's passage over box 2 of table S that pass 27: what the box answers, what
 /// the train hears, and what a move does, where no list of steps leads.
 fn records_of_s(corpus: &mut Corpus) {
-    let lock = [b'm', 0, 2, 2];
     let reserve = [b'm', 0, 1, 2];
     let (back, lock_back) = ([b'm', 0, 6, 2], [b'm', 0, 7, 2]);
     let (taken_back, lock_taken_back) = ([b'm', 0, 8, 2], [b'm', 0, 9, 2]);
@@ -102,19 +104,7 @@ fn records_of_s(corpus: &mut Corpus) {
     let hear: Step = [4, 1, 0];
     let enter: Step = [5, 1, 0];
     let clear: Step = [6, 1, 0];
-    let records: [(usize, &[Change], Step); 38] = [
-        // A lock: 23 before 24 before 25; front and next both count; what is the train's own is a yes.
-        (9, &[lock], answer),
-        (9, &[lock, sensor], answer),
-        (9, &[lock, locked(2)], answer),
-        (9, &[lock, locked(1)], answer),
-        (9, &[lock, sensor, locked(2)], answer),
-        (0, &[lock, locked(2)], answer),
-        (0, &[lock, sensor], answer),
-        (9, &[lock, front(0)], answer),
-        (9, &[lock, front(2)], answer),
-        (9, &[lock, next(0)], answer),
-        (9, &[lock, next(2)], answer),
+    let records: [(usize, &[Change], Step); 27] = [
         // A reservation.
         (0, &[reserve, next(1)], answer),
         (0, &[reserve, next(2)], answer),
@@ -155,6 +145,16 @@ fn records_of_s(corpus: &mut Corpus) {
     }
 }
 
+/// Made-up records of the start of table S: all that a box can find when it answers a lock.
+fn locks_of_s(corpus: &mut Corpus) {
+    let (mut rng, start, aim) = (Prng::for_case(SEED + 4, 0), corpus.line_after(0), Aim::LockAsked);
+    for asked in LockAsked::all() {
+        let changes = lock_changes(&mut rng, &start, asked).expect("both trains are before a point");
+        let bytes = step_on(&mut rng, &start, &changes, aim);
+        corpus.made_up(0, &changes, bytes, aim);
+    }
+}
+
 /// Lists of generated steps on generated tables, one in twelve with 96 segments and 16 trains; then
 /// further ones for the codes that are rare.
 pub fn generated_lists(corpus: &mut Corpus) {
@@ -171,14 +171,26 @@ pub fn generated_lists(corpus: &mut Corpus) {
         steps.truncate(steps.len() - rng.pick(&[0, 0, 0, 0, 1, 2]));
         corpus.steps(&steps);
     }
-    let mut case = 1_000;
-    while RARE.iter().any(|&code| corpus.list_codes[code as usize] < FEWEST_RARE) {
+    for case in 1_000..10_000 {
+        let count = |&(code, sensor): &(u8, Option<bool>)| match sensor {
+            None => corpus.list_codes[usize::from(code)],
+            Some(sensor) => corpus.list_locks.locked(sensor),
+        };
+        let lacking: Vec<_> = RARE.into_iter().filter(|rare| count(rare) < FEWEST_RARE).collect();
+        if lacking.is_empty() {
+            return;
+        }
         let mut rng = Prng::for_case(SEED + 2, case);
-        case += 1;
         let table = sized_table(&mut rng, 24);
         let events = driven(&mut rng, &table, 90);
-        let rare = |&(_, code): &(Step, u8)| RARE.contains(&code) && corpus.list_codes[code as usize] < FEWEST_RARE;
-        if let Some(last) = events.iter().rposition(rare) {
+        let mut line = start_line(&table);
+        let is_rare = |&(bytes, code): &(Step, u8)| {
+            let sensor = LockAsked::of(&line, bytes).map(|asked| asked.sensor);
+            step(&mut line, bytes);
+            lacking.contains(&(code, sensor))
+        };
+        let rare: Vec<bool> = events.iter().map(is_rare).collect();
+        if let Some(last) = rare.iter().rposition(|&rare| rare) {
             corpus.table(&table);
             corpus.steps(&step_bytes(&events[..=last]));
         }
@@ -216,8 +228,9 @@ pub fn made_up_records(corpus: &mut Corpus) {
         corpus.table(&table);
         corpus.steps(&step_bytes(&driven(&mut rng, &table, 30)));
         for (place, aim) in AIMS.into_iter().enumerate() {
-            if aim == Aim::Nothing && case <= TABLES {
-                (0..PASSING).for_each(|_| try_aim(&mut rng, corpus, 90, aim));
+            let passing = if aim == Aim::LockAsked { LOCKS } else { PASSING };
+            if matches!(aim, Aim::Nothing | Aim::LockAsked) && case <= TABLES {
+                (0..passing).for_each(|_| try_aim(&mut rng, corpus, 90, aim));
             } else if corpus.aims[place] < FEWEST_AIMED + 2 {
                 try_aim(&mut rng, corpus, 90, aim);
             }
@@ -244,7 +257,7 @@ fn try_aim(rng: &mut Prng, corpus: &mut Corpus, most: usize, aim: Aim) {
             continue;
         };
         if record_fault(&line) == aim.clause() {
-            let bytes = step_on(rng, if aim == Aim::Nothing { &line } else { &before }, &changes);
+            let bytes = step_on(rng, if aim.clause().is_none() { &line } else { &before }, &changes, aim);
             corpus.made_up(taken, &changes, bytes, aim);
             return;
         }
@@ -253,8 +266,7 @@ fn try_aim(rng: &mut Prng, corpus: &mut Corpus, most: usize, aim: Aim) {
 
 /// The line with changes; `None` where this implementation has no such record.
 fn made_up_line(before: &Line, changes: &[Change]) -> Option<Line> {
-    let mut record = Record::of(before);
-    changes.iter().for_each(|&change| record.change(change));
+    let record = Record::changed(before, changes);
     let line = record.line();
     let same = record_fault(&line).is_some() || Record::of(&line).numbers() == record.numbers();
     same.then_some(line)

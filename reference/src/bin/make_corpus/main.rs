@@ -37,7 +37,7 @@ mod lines;
 
 use corpus::{Corpus, FEWEST};
 use lines::FEWEST_AIMED;
-use reference::counts::{file_codes, step_codes, Counts, FILE_CODES};
+use reference::counts::{file_codes, list_codes, step_codes, Counts, FILE_CODES};
 use reference::generate::made_up::AIMS;
 use std::path::Path;
 
@@ -45,7 +45,8 @@ use std::path::Path;
 const MOST_CORPUS: usize = 260_000;
 const MOST_FILE: usize = 4_800;
 const MOST_TEXT: usize = 600_000;
-/// How many steps of lists have each code 0, 13 to 25 and 29 at least.
+/// How many steps of lists have each code that lists have at least, and how many boxes of lists answer 24 at least with
+/// the sensor active, and with it passive.
 const FEWEST_STEPS: usize = 20;
 
 /// The corpus, and how many files of its damaged part have each code.
@@ -70,11 +71,15 @@ fn make() -> (Corpus, Counts) {
 /// What is amiss with a corpus, if anything.
 fn fault(corpus: &Corpus, aimed: &Counts) -> Option<String> {
     let missed = FILE_CODES.map(usize::from).into_iter().find(|&code| aimed[code] < FEWEST);
-    let rare = step_codes().find(|&code| corpus.list_codes[code] < FEWEST_STEPS);
+    let rare = list_codes().find(|&code| corpus.list_codes[code] < FEWEST_STEPS);
+    let locked = [false, true].map(|sensor| corpus.list_locks.locked(sensor));
     let unaimed = (0..AIMS.len()).find(|&i| corpus.aims[i] < FEWEST_AIMED);
     match missed {
         Some(code) => Some(format!("code {code} has {} damaged files", aimed[code])),
         None if rare.is_some() => Some(format!("code {} has too few steps", rare?)),
+        None if locked.iter().any(|&count| count < FEWEST_STEPS) => Some(format!("24 has too few steps: {locked:?}")),
+        None if corpus.list_codes[23] > 0 => Some("a list of steps has code 23".into()),
+        None if corpus.made_up_locks.fewest() == 0 => Some("boxes do not answer a lock in all ways".into()),
         None if unaimed.is_some() => Some(format!("{:?} has too few made-up records", AIMS[unaimed?])),
         None if corpus.counts[0] == 0 => Some("no file is accepted".into()),
         None if corpus.files.iter().any(|f| f.len() > MOST_FILE) => Some("a file is too long".into()),
@@ -112,6 +117,7 @@ fn print_counts(corpus: &Corpus, aimed: &Counts) {
     for code in step_codes().chain([27]) {
         eprintln!("{code:4} {:6} {:6}", corpus.list_codes[code], corpus.made_up_codes[code]);
     }
+    eprint!("lists: {}made-up records: {}", corpus.list_locks, corpus.made_up_locks);
     eprintln!("made-up records by what they break");
     for (aim, count) in AIMS.iter().zip(&corpus.aims) {
         eprintln!("{:15} {count:6}", format!("{aim:?}"));

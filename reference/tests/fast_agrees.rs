@@ -214,9 +214,10 @@ fn records() {
     let mut counts = RecordCounts::default();
     assert!((0..800).all(|case| records_alike(case, Fault::None, &mut counts)));
     let RecordCounts { codes, locks } = counts;
+    println!("{codes:?}\n{locks}");
     let seen = |code: usize| code == 27 || step_codes().any(|of_step| of_step == code);
     assert!((0..CODES).all(|code| (codes[code] > 20) == seen(code)), "{codes:?}");
-    assert!(locks.fewest() > 10, "{locks}");
+    assert!(locks.fewest() > 10);
 }
 
 /// Steps that change the line are taken by checked calls as by plain ones.

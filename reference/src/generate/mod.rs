@@ -5,6 +5,7 @@
 pub mod damage;
 pub mod draft;
 pub mod example;
+mod harmless;
 pub mod lock_asked;
 pub mod made_up;
 pub mod outside;

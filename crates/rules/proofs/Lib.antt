@@ -4,6 +4,8 @@ pub mod Tests
 pub mod Rows
 -- The test of code 9 says yes exactly where a loop exists.
 pub mod Loop
+-- The stem side of a box is the one case that is so.
+pub mod StemSides
 -- Laws of refusals.
 pub mod Refusals
 -- The search through a table's routes finds the first place at fault.

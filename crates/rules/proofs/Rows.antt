@@ -250,6 +250,17 @@ module _ {ℓ} {A : Type ℓ} where
   unfolding filled
   filled-set n d a l i e h = rw (sym e) (set-fill n n d a l (omega arith) (omega arith))
 
+  -- An array that a loop fills, record by record: before the first one, and with one more.
+  pub fill-none : (n : ℕ) (d : A) (f : ℕ → A) → replicate n d ≡ filled n d (listOf 0 f)
+  fill-none n d f = sym (ap (λ (l : List A). filled n d l) (list-none f) ∙ filled-none n d)
+
+  pub fill-more : (n : ℕ) (d : A) (f : ℕ → A) (i : ℕ) (l : List A) (x : A)
+      → i < n → l ≡ filled n d (listOf i f) → x ≡ f (i + 1) → set l i x ≡ filled n d (listOf (i + 1) f)
+  fill-more n d f i l x h e v =
+      rw (e, v)
+      (filled-set n d (f (i + 1)) (listOf i f) i (list-length f i) h
+      ∙ ap (λ (r : List A). filled n d r) (sym (list-more f i)))
+
   pub filled-at : (n : ℕ) (d e : A) (l : List A) (i : ℕ) → i < length l → i < n → getD (filled n d l) i e ≡ getD l i e
   unfolding filled
   filled-at n d e l i h k = getD-take n (l ++ replicate n d) i e k ∙ List·getD-append l (replicate n d) e i h

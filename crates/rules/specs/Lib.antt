@@ -7,6 +7,7 @@ pub mod Track
 -- for; `conditionRows` and `tableCode` put a table's own parts in.
 pub mod Loop
 pub mod Network
+pub mod StemSide
 pub mod Placing
 -- Codes 11 and 28 once more, in plain words.
 pub mod RouteFault

@@ -18,6 +18,13 @@ pub struct BoxPlan {
     pub position: u8,
 }
 
+// Which end of a box's stem segment is at the box: neither, its A end, or its B end. The first is what is read where there is no box.
+pub enum StemSide {
+    Neither,
+    AEnd,
+    BEnd,
+}
+
 // A train in the table: its direction (0 from A ends to B ends, 1 back) and its route's length.
 pub struct TrainPlan {
     pub direction: u8,

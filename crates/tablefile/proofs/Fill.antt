@@ -1,4 +1,4 @@
--- Arrays that a loop fills: record by record, or list by list.
+-- Arrays that a loop fills list by list (record by record: Rows of `rules`).
 use Prim.Native.Nat.{ℕ, zero, suc, _+_, _-_, _*_, _≤_, _<_, min}
 use mathlib.Core.Path.{_≡_, refl, sym, _∙_, ap}
 use mathlib.Core.List.{List, [], _∷_, _++_, append-assoc, append-nil}
@@ -11,18 +11,6 @@ use Rattle.rules.specs.Rows.{listOf, joinOf, filled}
 use Rattle.rules.proofs.Rows.{list-none, list-more, list-length, join-more, join-length, filled-none, filled-length, filled-set, take-replicate, sets-append}
 
 module _ {ℓ} {A : Type ℓ} where
-  -- The array before the first record.
-  pub fill-none : (n : ℕ) (d : A) (f : ℕ → A) → replicate n d ≡ filled n d (listOf 0 f)
-  fill-none n d f = sym (ap (λ (l : List A). filled n d l) (list-none f) ∙ filled-none n d)
-
-  -- One record more.
-  pub fill-more : (n : ℕ) (d : A) (f : ℕ → A) (i : ℕ) (l : List A) (x : A) →
-      i < n → l ≡ filled n d (listOf i f) → x ≡ f (i + 1) → set l i x ≡ filled n d (listOf (i + 1) f)
-  fill-more n d f i l x h e v =
-      rw (e, v)
-      (filled-set n d (f (i + 1)) (listOf i f) i (list-length f i) h
-      ∙ ap (λ (r : List A). filled n d r) (sym (list-more f i)))
-
   -- A part that is copied, with one more.
   pub copy-more : (l s : List A) (place from j : ℕ) (d : A) →
       from + j < length s →

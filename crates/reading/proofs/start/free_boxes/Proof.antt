@@ -5,7 +5,7 @@ use native.Mathlib.Omega.{arith}
 use Rattle.rules.specs.Rows.{filled, listOf}
 use Rattle.rules.specs.Line.{noBox}
 use Rattle.reading.specs.Start.{freeBoxAt}
-use Rattle.tablefile.proofs.Fill.{fill-none, fill-more}
+use Rattle.rules.proofs.Rows.{fill-none, fill-more}
 use Rattle.reading.proofs.Begin.{free-box}
 use Rattle.reading.proofs.start.free_boxes.Statement.{statement}
 use Rattle.reading.proofs.start.free_boxes.Tie as tie

@@ -4,7 +4,7 @@ use mathlib.Core.Path.{_≡_, sym}
 use native.Mathlib.Omega.{arith}
 use Rattle.rules.specs.Rows.{filled, listOf}
 use Rattle.rules.specs.Line.{noTrain, startTrain}
-use Rattle.tablefile.proofs.Fill.{fill-none, fill-more}
+use Rattle.rules.proofs.Rows.{fill-none, fill-more}
 use Rattle.reading.proofs.Begin.{start-train}
 use Rattle.reading.proofs.start.trains.Statement.{statement}
 use Rattle.reading.proofs.start.trains.Tie as tie

@@ -7,7 +7,7 @@ use Rattle.rules.specs.Rows.{filled, listOf}
 use Rattle.rules.specs.Track.{noBoxPlan}
 use Rattle.rules.specs.File.{byteAt, boxCount, planIn}
 use Rattle.tablefile.specs.Whole.{boxesOf}
-use Rattle.tablefile.proofs.Fill.{fill-none, fill-more}
+use Rattle.rules.proofs.Rows.{fill-none, fill-more}
 use Rattle.tablefile.proofs.Parts.{whole-boxes, boxes-room, plan-in}
 use Rattle.tablefile.proofs.records.boxes.Statement.{statement}
 use Rattle.tablefile.proofs.records.boxes.Tie as tie

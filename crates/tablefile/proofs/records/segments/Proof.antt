@@ -7,7 +7,7 @@ use Rattle.rules.specs.Rows.{filled, listOf}
 use Rattle.rules.specs.Track.{noSegment}
 use Rattle.rules.specs.File.{byteAt, segmentCount, segmentIn}
 use Rattle.tablefile.specs.Whole.{segmentsOf}
-use Rattle.tablefile.proofs.Fill.{fill-none, fill-more}
+use Rattle.rules.proofs.Rows.{fill-none, fill-more}
 use Rattle.tablefile.proofs.Parts.{whole-boxes, segments-room, segment-in}
 use Rattle.tablefile.proofs.records.segments.Statement.{statement}
 use Rattle.tablefile.proofs.records.segments.Tie as tie

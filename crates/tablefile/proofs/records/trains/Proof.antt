@@ -7,7 +7,7 @@ use Rattle.rules.specs.Rows.{filled, listOf}
 use Rattle.rules.specs.Track.{noTrainPlan}
 use Rattle.rules.specs.File.{byteAt, trainCount, trainsFrom, trainPlanIn}
 use Rattle.tablefile.specs.Whole.{trainsOf}
-use Rattle.tablefile.proofs.Fill.{fill-none, fill-more}
+use Rattle.rules.proofs.Rows.{fill-none, fill-more}
 use Rattle.tablefile.proofs.Parts.{whole-boxes, whole-rest, trains-next, train-plan-in}
 use Rattle.tablefile.proofs.records.trains.Statement.{statement}
 use Rattle.tablefile.proofs.records.trains.Tie as tie

@@ -1,13 +1,13 @@
 -- What the conditions on a network say of the record at an index, in the words of the functions that test them.
 use Prim.Native.Nat.{ℕ, _+_, _-_, _≤_, _<_}
-use mathlib.Core.Path.{_≡_, sym, _∙_, ap}
-use mathlib.Core.Bool.{Bool, true, false, false≢true}
+use mathlib.Core.Path.{_≡_, refl, sym, _∙_, ap}
+use mathlib.Core.Bool.{Bool, true, false, cond, not, _&&_, _||_, false≢true}
 use mathlib.Core.List.{List}
 use native.Mathlib.Numerals.{add-one}
 use native.Mathlib.Decide.{decLt}
 use native.Mathlib.Omega.{arith}
 use borrow.Author.Tests.{eq-eqb, ne-eqb}
-use lib.Dec.{eqb}
+use lib.Dec.{eqb, leb, ltb}
 use lib.ListN.{length, getD}
 use Rattle.rules.specs.declared.Segment.{Segment}
 use Rattle.rules.specs.declared.BoxPlan.{BoxPlan}
@@ -15,8 +15,8 @@ use Rattle.rules.specs.Rows.{anyOf, outside, nth}
 use Rattle.rules.proofs.Tests.{tests, facts, answered, outside-false-iff, cond-same}
 use Rattle.rules.proofs.Accepted.{BoxOf}
 use Rattle.rules.proofs.Rows.{any-false-at, any-false, none-found, nth-at, nth-before, nth-past}
-use Rattle.rules.specs.Track.{noSegment, noBoxPlan, Track, trackBy, farBox}
-use Rattle.rules.specs.Network.{endsFault, planFault, lists, hasEndA, hasEndB, sideFault, boxFault, planFaultAt, boxFaultAt, unlistedFault}
+use Rattle.rules.specs.Track.{noSegment, noBoxPlan, Track, trackBy, farBox, isPoint, positionFits}
+use Rattle.rules.specs.Network.{endsFault, placeFault, branchesFault, planFault, lists, planFaultAt, unlistedFault}
 
 -- The box at index i is that of number i + 1; r is what a function answered for it, and v what a branch found.
 module _ (i : ℕ) (r v : Bool) where
@@ -24,9 +24,47 @@ module _ (i : ℕ) (r v : Bool) where
   unfolding planFaultAt
   plan-answer n plans e f = rw nth-at (answered _ _ _ e f)
 
-  pub box-answer : (track : Track) (plans : List BoxPlan) → r ≡ boxFault track (i + 1) (getD plans i noBoxPlan) → r ≡ v → boxFaultAt track plans (i + 1) ≡ v
-  unfolding boxFaultAt
-  box-answer track plans e f = rw nth-at (answered _ _ _ e f)
+-- A test that is never passed adds nothing.
+or-none : (x : Bool) → (x || false) ≡ x
+or-none true = refl
+or-none false = refl
+
+-- What is at fault with a plan of kind k, by the tests of its parts: the stem, a needed and an unused left, a needed and an unused right,
+-- equal branches, the position.
+module _ (k : ℕ) (stem left noLeft right noRight same position : Bool) where
+  abbrev ByKind : Bool → Type 0
+  ByKind v =
+      (ltb 2 k || stem || cond (leb 1 k) left noLeft || cond (eqb k 2) right noRight || (eqb k 2 && same) || position) ≡ v
+
+  kind-0 : k ≡ 0 → ByKind (stem || noLeft || noRight || position)
+  kind-0 e = rw e (ap (λ (x : Bool). x || position) (or-none (stem || noLeft || noRight)))
+
+  kind-1 : k ≡ 1 → ByKind (stem || left || noRight || position)
+  kind-1 e = rw e (ap (λ (x : Bool). x || position) (or-none (stem || left || noRight)))
+
+  kind-2 : k ≡ 2 → ByKind (stem || left || right || same || position)
+  kind-2 e = rw e
+
+-- Code 7 at a border, at a link and at a point, and where the kind is above 2.
+module _ (n : ℕ) (p : BoxPlan) where
+  pub plan-border : p .kind ≡ 0
+      → planFault n p ≡ (outside n (p .stem) || not (eqb (p .left) 0) || not (eqb (p .right) 0) || not (positionFits p (p .position)))
+  unfolding planFault placeFault branchesFault isPoint
+  plan-border e = kind-0 (p .kind) _ _ _ _ _ _ _ e
+
+  pub plan-link : p .kind ≡ 1
+      → planFault n p ≡ (outside n (p .stem) || outside n (p .left) || not (eqb (p .right) 0) || not (positionFits p (p .position)))
+  unfolding planFault placeFault branchesFault isPoint
+  plan-link e = kind-1 (p .kind) _ _ _ _ _ _ _ e
+
+  pub plan-point : p .kind ≡ 2
+      → planFault n p ≡ (outside n (p .stem) || outside n (p .left) || outside n (p .right) || eqb (p .left) (p .right) || not (positionFits p (p .position)))
+  unfolding planFault placeFault branchesFault isPoint
+  plan-point e = kind-2 (p .kind) _ _ _ _ _ _ _ e
+
+  pub plan-other : 2 < p .kind → true ≡ planFault n p
+  unfolding planFault
+  plan-other h = search tests depth 8
 
 -- More boxes than there are places: box 97 has no plan, and reads as one with segment 0 at its stem, which is at fault. So there
 -- are no more where no plan is at fault.
@@ -76,26 +114,6 @@ module _ (n m : ℕ) (track : Track) (none : anyOf n (endsFault m track) ≡ fal
       any-false (endsFault p track) n λ s l h.
       let (both, differ) = simp (facts, outside-false-iff) at (any-false-at (endsFault m track) n s none l h) in
       simp (facts, outside-false-iff) (omega arith, differ)
-
--- Code 8 at a branch s: there is none; it and the stem are at the box by their A ends, or by their B ends; and neither.
-module _ (track : Track) (b stem s : ℕ) where
-  pub no-branch : s ≡ 0 → false ≡ sideFault track b stem s
-  unfolding sideFault
-  no-branch e = search tests
-
-  module _ (branch : s ≡ 0 → ⊥) where
-    pub side-a : track .endA stem ≡ b → track .endA s ≡ b → true ≡ sideFault track b stem s
-    unfolding sideFault hasEndA
-    side-a e f = search tests depth 8
-
-    pub side-b : track .endB stem ≡ b → track .endB s ≡ b → true ≡ sideFault track b stem s
-    unfolding sideFault hasEndB
-    side-b e f = search tests depth 8
-
-    pub side-apart : (track .endA stem ≡ b → track .endA s ≡ b → ⊥) → (track .endB stem ≡ b → track .endB s ≡ b → ⊥)
-        → false ≡ sideFault track b stem s
-    unfolding sideFault hasEndA hasEndB
-    side-apart e f = sym (simp facts (λ _. (e, f)))
 
 -- What was found at the two boxes of a segment's ends.
 pub listed-at : (plans : List BoxPlan) (x s : ℕ) (r v : Bool) → 1 ≤ x → r ≡ lists (getD plans (x - 1) noBoxPlan) s → r ≡ v → lists (nth plans x noBoxPlan) s ≡ v

@@ -7,7 +7,7 @@ use rules::Segment;
 ghost use mathlib.Core.Path.{_≡_};
 ghost use Rattle.rules.specs.Rows.{first, anyOf, outside};
 ghost use Rattle.rules.specs.Track.{trackBy, trackIn, farBox, positionFits};
-ghost use Rattle.rules.specs.Network.{endsFault, placeFault, branchesFault, planFault, planFaultAt, networkRows};
+ghost use Rattle.rules.specs.Network.{endsFault, planFault, planFaultAt, networkRows};
 ghost use Rattle.network.specs.Column.{column};
 
 // x is 0 or above n.
@@ -63,16 +63,6 @@ fn some_ends_faulty(n: u8, m: u8, a: &[u8; 256], b: &[u8; 256]) -> bool
     false
 }
 
-// Code 7, a place that a box needs, and one that it does not use.
-fn place_faulty(n: u8, needed: bool, s: u8) -> bool
-    ensures { λ r. ⌜ r ≡ placeFault n needed s ⌝ }
-{
-    if needed {
-        return outside(n, s);
-    }
-    s != 0
-}
-
 // A position that a box of this kind can have.
 pub fn position_fits(p: BoxPlan, x: u8) -> bool
     ensures { λ r. ⌜ r ≡ positionFits p x ⌝ }
@@ -86,36 +76,71 @@ pub fn position_fits(p: BoxPlan, x: u8) -> bool
     x == 0
 }
 
-// Code 7: a point with one segment at both branches.
-fn branches_faulty(p: BoxPlan) -> bool
-    ensures { λ r. ⌜ r ≡ branchesFault p ⌝ }
-{
-    if p.kind != 2 {
-        return false;
-    }
-    p.left == p.right
-}
-
-// Code 7 on one box.
-fn plan_faulty(n: u8, p: BoxPlan) -> bool
+// Code 7 at a border, which needs its stem alone.
+fn border_faulty(n: u8, p: BoxPlan) -> bool
+    requires { ⌜ p .kind ≡ 0 ⌝ }
     ensures { λ r. ⌜ r ≡ planFault n p ⌝ }
 {
-    if p.kind > 2 {
-        return true;
-    }
     if outside(n, p.stem) {
         return true;
     }
-    if place_faulty(n, p.kind >= 1, p.left) {
+    if p.left != 0 {
         return true;
     }
-    if place_faulty(n, p.kind == 2, p.right) {
-        return true;
-    }
-    if branches_faulty(p) {
+    if p.right != 0 {
         return true;
     }
     !position_fits(p, p.position)
+}
+
+// Code 7 at a link, which needs stem and left.
+fn link_faulty(n: u8, p: BoxPlan) -> bool
+    requires { ⌜ p .kind ≡ 1 ⌝ }
+    ensures { λ r. ⌜ r ≡ planFault n p ⌝ }
+{
+    if outside(n, p.stem) {
+        return true;
+    }
+    if outside(n, p.left) {
+        return true;
+    }
+    if p.right != 0 {
+        return true;
+    }
+    !position_fits(p, p.position)
+}
+
+// Code 7 at a point, which needs all three, left and right not the same.
+fn point_faulty(n: u8, p: BoxPlan) -> bool
+    requires { ⌜ p .kind ≡ 2 ⌝ }
+    ensures { λ r. ⌜ r ≡ planFault n p ⌝ }
+{
+    if outside(n, p.stem) {
+        return true;
+    }
+    if outside(n, p.left) {
+        return true;
+    }
+    if outside(n, p.right) {
+        return true;
+    }
+    if p.left == p.right {
+        return true;
+    }
+    !position_fits(p, p.position)
+}
+
+// Code 7 on one box, by its kind.
+fn plan_faulty(n: u8, p: BoxPlan) -> bool
+    ensures { λ r. ⌜ r ≡ planFault n p ⌝ }
+{
+    let kind = p.kind;
+    match kind {
+        0 => border_faulty(n, p),
+        1 => link_faulty(n, p),
+        2 => point_faulty(n, p),
+        _ => true,
+    }
 }
 
 // Code 7: some box is not as its kind asks.
@@ -148,7 +173,8 @@ pub fn network_code(n: u8, m: u8, plans: [BoxPlan; 96], a: &[u8; 256], b: &[u8; 
     if some_plan_faulty(n, m, plans) {
         return 7;
     }
-    if listing::some_listing_faulty(m, plans, a, b) {
+    let sides = listing::stem_sides(m, plans, a, b);
+    if listing::some_listing_faulty(m, plans, sides, a, b) {
         return 8;
     }
     if listing::some_unlisted(n, plans, a, b) {

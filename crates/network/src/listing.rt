@@ -1,75 +1,99 @@
 // Code 8: the segments that boxes list.
 use rules::BoxPlan;
+use rules::StemSide;
 ghost use mathlib.Core.Path.{_≡_};
 ghost use mathlib.Core.Bool.{false};
 ghost use Prim.Native.Nat.{_≤_};
-ghost use Rattle.rules.specs.Rows.{anyOf};
+ghost use lib.ListN.{getD};
+ghost use Rattle.rules.specs.Rows.{anyOf, listOf, filled};
 ghost use Rattle.rules.specs.Track.{trackIn};
-ghost use Rattle.rules.specs.Network.{endsFault, lists, listedFault, sideFault, boxFault, boxFaultAt, unlistedFault};
+ghost use Rattle.rules.specs.Network.{endsFault, lists, unlistedFault};
+ghost use Rattle.rules.specs.StemSide.{stemSide, stemSideAt};
+ghost use Rattle.network.specs.Sided.{branchAway, someBranchAway, sidedFault, sidedFaultAt};
 
-// Code 8 at a segment s that the box lists: it has no end there.
-fn listed_faulty(number: u8, s: u8, a: &[u8; 256], b: &[u8; 256]) -> bool
-    ensures { λ r. ⌜ r ≡ listedFault (trackIn (now (a .entry)) (now (b .entry))) number s ⌝ }
+// The stem side of the box with this number, whose stem is segment s.
+fn stem_side(number: u8, s: u8, a: &[u8; 256], b: &[u8; 256]) -> StemSide
+    ensures { λ r. ⌜ r ≡ stemSide (trackIn (now (a .entry)) (now (b .entry))) number s ⌝ }
 {
-    if s == 0 {
-        return false;
-    }
     if a[s as usize] == number {
-        return false;
+        return StemSide::AEnd;
     }
-    b[s as usize] != number
+    if b[s as usize] == number {
+        return StemSide::BEnd;
+    }
+    StemSide::Neither
 }
 
-// Code 8 at a branch s: it is on the stem's side of the box.
-fn side_faulty(number: u8, stem: u8, s: u8, a: &[u8; 256], b: &[u8; 256]) -> bool
-    ensures { λ r. ⌜ r ≡ sideFault (trackIn (now (a .entry)) (now (b .entry))) number stem s ⌝ }
+// The stem sides of boxes 1 .. m, each worked out once.
+pub(crate) fn stem_sides(
+    m: u8,
+    plans: [BoxPlan; 96],
+    a: &[u8; 256],
+    b: &[u8; 256],
+) -> [StemSide; 96]
+    requires { ⌜ m ≤ 96 ⌝ }
+    ensures { λ r. ⌜ r ≡ filled 96 StemSide.Neither (listOf m (stemSideAt (trackIn (now (a .entry)) (now (b .entry))) plans)) ⌝ }
+{
+    let mut sides = [StemSide::Neither; 96];
+    let mut number: u8 = 0;
+    while number < m {
+        let i = number as usize;
+        number += 1;
+        let p = plans[i];
+        let side = stem_side(number, p.stem, a, b);
+        sides[i] = side;
+    }
+    sides
+}
+
+// The end of branch s that is asked for is not at the box; `ends` has the A ends or the B ends of segments.
+fn branch_away(number: u8, s: u8, ends: &[u8; 256]) -> bool
+    ensures { λ r. ⌜ r ≡ branchAway (λ x. getD (now (ends .entry)) x 0) number s ⌝ }
 {
     if s == 0 {
         return false;
     }
-    if a[stem as usize] == number {
-        if a[s as usize] == number {
-            return true;
-        }
-    }
-    if b[stem as usize] == number {
-        if b[s as usize] == number {
-            return true;
-        }
-    }
-    false
+    ends[s as usize] != number
 }
 
-// Code 8 at a box.
-fn listing_faulty(number: u8, p: BoxPlan, a: &[u8; 256], b: &[u8; 256]) -> bool
-    ensures { λ r. ⌜ r ≡ boxFault (trackIn (now (a .entry)) (now (b .entry))) number p ⌝ }
+fn some_branch_away(number: u8, p: BoxPlan, ends: &[u8; 256]) -> bool
+    ensures { λ r. ⌜ r ≡ someBranchAway (λ x. getD (now (ends .entry)) x 0) number p ⌝ }
 {
-    if listed_faulty(number, p.stem, a, b) {
+    if branch_away(number, p.left, ends) {
         return true;
     }
-    if listed_faulty(number, p.left, a, b) {
-        return true;
-    }
-    if listed_faulty(number, p.right, a, b) {
-        return true;
-    }
-    if side_faulty(number, p.stem, p.left, a, b) {
-        return true;
-    }
-    side_faulty(number, p.stem, p.right, a, b)
+    branch_away(number, p.right, ends)
 }
 
-// Code 8: some box lists a segment without an end there, or a branch on the stem's side.
-pub(crate) fn some_listing_faulty(m: u8, plans: [BoxPlan; 96], a: &[u8; 256], b: &[u8; 256]) -> bool
+// Code 8 at a box by its stem side.
+fn listing_faulty(number: u8, p: BoxPlan, side: StemSide, a: &[u8; 256], b: &[u8; 256]) -> bool
+    ensures { λ r. ⌜ r ≡ sidedFault (trackIn (now (a .entry)) (now (b .entry))) number p side ⌝ }
+{
+    match side {
+        StemSide::AEnd => some_branch_away(number, p, b),
+        StemSide::BEnd => some_branch_away(number, p, a),
+        StemSide::Neither => true,
+    }
+}
+
+// Code 8 at the boxes, by their stem sides: some box lists a segment without an end there, or a branch on the stem's side.
+pub(crate) fn some_listing_faulty(
+    m: u8,
+    plans: [BoxPlan; 96],
+    sides: [StemSide; 96],
+    a: &[u8; 256],
+    b: &[u8; 256],
+) -> bool
     requires { ⌜ m ≤ 96 ⌝ }
-    ensures { λ r. ⌜ r ≡ anyOf m (boxFaultAt (trackIn (now (a .entry)) (now (b .entry))) plans) ⌝ }
+    ensures { λ r. ⌜ r ≡ anyOf m (sidedFaultAt (trackIn (now (a .entry)) (now (b .entry))) plans sides) ⌝ }
 {
     let mut number: u8 = 0;
     while number < m {
         let i = number as usize;
         number += 1;
         let p = plans[i];
-        if listing_faulty(number, p, a, b) {
+        let side = sides[i];
+        if listing_faulty(number, p, side, a, b) {
             return true;
         }
     }

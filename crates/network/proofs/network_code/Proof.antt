@@ -1,6 +1,6 @@
 -- The codes in their order, by the tests that led to each return.
 use Prim.Native.Nat.{_≤_}
-use mathlib.Core.Path.{_≡_}
+use mathlib.Core.Path.{_≡_, _∙_}
 use mathlib.Core.Bool.{false}
 use borrow.Author.Needs.{needs}
 use Rattle.rules.specs.Rows.{anyOf}
@@ -9,30 +9,40 @@ use Rattle.rules.specs.Network.{endsFault, planFaultAt, boxFaultAt, unlistedFau
 use Rattle.rules.proofs.Tests.{answered}
 use Rattle.rules.proofs.Rows.{length-mapped}
 use Rattle.network.proofs.Laws.{ends-wider, few-boxes}
+use Rattle.network.proofs.Sides.{boxes-by-sides}
 use Rattle.network.proofs.Codes.{network-6, network-7, boxes-8, segments-8, network-9, network-0}
 use Rattle.network.proofs.network_code.Statement.{statement}
 use Rattle.network.proofs.network_code.Tie as tie
 
--- What was found to be without fault past each test: the ends, the plans, the boxes and the listing of segments.
+-- What was found to be without fault past each test: the ends, the plans, below them the boxes and the listing of segments.
 ends-fine : (c : tie.Else1) → let s = c .before .before .args in anyOf (s .n) (endsFault (s .m) (trackIn (s .a .now) (s .b .now))) ≡ false
 ends-fine c = answered _ _ _ (c .before .some-ends-faulty .ensures) (c .if1 .left)
 
 plans-fine : (c : tie.Else2) → let s = c .before .before .before .before .args in anyOf (s .m) (planFaultAt (s .n) (s .plans)) ≡ false
 plans-fine c = answered _ _ _ (c .before .some-plan-faulty .ensures) (c .if2 .left)
 
-boxes-fine : (c : tie.Else3) →
-    let s = c .before .before .before .before .before .before .args in
-    anyOf (s .m) (boxFaultAt (trackIn (s .a .now) (s .b .now)) (s .plans)) ≡ false
-boxes-fine c = answered _ _ _ (c .before .some-listing-faulty .ensures) (c .if3 .left)
-
-segments-fine : (c : tie.Else4) →
-    let s = c .before .before .before .before .before .before .before .before .args in
-    anyOf (s .n) (unlistedFault (trackIn (s .a .now) (s .b .now)) (s .plans)) ≡ false
-segments-fine c = answered _ _ _ (c .before .some-unlisted .ensures) (c .if4 .left)
-
--- Past the second test no plan is at fault, so that there are no more boxes than places.
+-- So there are no more boxes than places.
 few : (c : tie.Else2) → c .before .before .before .before .args .m ≤ 96
 few c = few-boxes _ _ _ (search (needs, length-mapped)) (plans-fine c)
+
+-- What is found by the stem sides that were kept is code 8 at the boxes.
+by-sides : (c : tie.After-some-listing-faulty) →
+    let s = c .before .before .before .before .before .before .args in
+    c .some-listing-faulty .result ≡ anyOf (s .m) (boxFaultAt (trackIn (s .a .now) (s .b .now)) (s .plans))
+by-sides c =
+    let plans = c .before .before in
+    c .some-listing-faulty .ensures
+    ∙ boxes-by-sides _ _ _ (ends-fine (plans .before .before)) _ _ (plans-fine plans) (few plans) (c .before .stem-sides .ensures)
+
+boxes-fine : (c : tie.Else3) →
+    let s = c .before .before .before .before .before .before .before .args in
+    anyOf (s .m) (boxFaultAt (trackIn (s .a .now) (s .b .now)) (s .plans)) ≡ false
+boxes-fine c = answered _ _ _ (by-sides (c .before)) (c .if3 .left)
+
+segments-fine : (c : tie.Else4) →
+    let s = c .before .before .before .before .before .before .before .before .before .args in
+    anyOf (s .n) (unlistedFault (trackIn (s .a .now) (s .b .now)) (s .plans)) ≡ false
+segments-fine c = answered _ _ _ (c .before .some-unlisted .ensures) (c .if4 .left)
 
 some-ends-faulty-requires : tie.Need-some-ends-faulty-requires
 some-ends-faulty-requires c κs = search needs
@@ -49,25 +59,28 @@ returns-2 c =
     (ends-fine (c .before .before))
     (answered _ _ _ (c .before .some-plan-faulty .ensures) (c .if2 .taken))
 
+stem-sides-requires : tie.Need-stem-sides-requires
+stem-sides-requires c κs = few c
+
 some-listing-faulty-requires : tie.Need-some-listing-faulty-requires
-some-listing-faulty-requires c κs = few c
+some-listing-faulty-requires c κs = few (c .before)
 
 returns-3 : tie.Need-returns-3
 returns-3 c =
-    let plans = c .before .before in
+    let plans = c .before .before .before in
     boxes-8 _ _ _ _
     (ends-fine (plans .before .before))
     (plans-fine plans)
-    (answered _ _ _ (c .before .some-listing-faulty .ensures) (c .if3 .taken))
+    (answered _ _ _ (by-sides (c .before)) (c .if3 .taken))
 
 some-unlisted-requires : tie.Need-some-unlisted-requires
 some-unlisted-requires c κs =
-    let plans = c .before .before in
+    let plans = c .before .before .before in
     ends-wider _ _ _ (ends-fine (plans .before .before)) 96 (few plans)
 
 returns-4 : tie.Need-returns-4
 returns-4 c =
-    let plans = c .before .before .before .before in
+    let plans = c .before .before .before .before .before in
     segments-8 _ _ _ _
     (ends-fine (plans .before .before))
     (plans-fine plans)
@@ -80,7 +93,7 @@ returns-5 : tie.Need-returns-5
 returns-5 c =
     let segments = c .before .before in
     let boxes = segments .before .before in
-    let plans = boxes .before .before in
+    let plans = boxes .before .before .before in
     network-9 _ _ _ _
     (ends-fine (plans .before .before))
     (plans-fine plans)
@@ -92,7 +105,7 @@ returns-6 : tie.Need-returns-6
 returns-6 c =
     let segments = c .before .before in
     let boxes = segments .before .before in
-    let plans = boxes .before .before in
+    let plans = boxes .before .before .before in
     network-0 _ _ _ _
     (ends-fine (plans .before .before))
     (plans-fine plans)
@@ -108,6 +121,7 @@ network-code-spec =
     returns
     some-plan-faulty-requires
     returns-2
+    stem-sides-requires
     some-listing-faulty-requires
     returns-3
     some-unlisted-requires

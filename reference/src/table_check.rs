@@ -23,7 +23,7 @@ pub fn check_body_with(table: &Table, fault: Fault) -> Result<(), Refusal> {
     stop(table.segments.iter().any(|s| ends_fail(table, s)), 6)?;
     stop(table.boxes.iter().any(|b| box_fails(table, b)), 7)?;
     stop(fault == Fault::LoopBeforeListing && has_loop(table), 9)?;
-    let stem_sides = stem_sides(table);
+    let stem_sides = kept_sides(table, fault);
     stop(listing_fails(table, &stem_sides, fault), 8)?;
     stop(fault != Fault::LoopTaken && has_loop(table), 9)?;
     check_trains(table, fault)
@@ -131,6 +131,19 @@ pub fn stem_sides(table: &Table) -> Vec<StemSide> {
         None => StemSide::Neither,
     };
     table.boxes.iter().enumerate().map(side).collect()
+}
+
+/// The stem sides that are kept for code 8, some of them wrong where a fault makes them so.
+fn kept_sides(table: &Table, fault: Fault) -> Vec<StemSide> {
+    let sides = stem_sides(table);
+    let kept = |&side: &StemSide| match (fault, side) {
+        (Fault::StemSideOfBoxOne, _) => sides[0],
+        (Fault::StemSidesSwapped, StemSide::A) => StemSide::B,
+        (Fault::StemSidesSwapped, StemSide::B) => StemSide::A,
+        (Fault::NeitherSideIsA, StemSide::Neither) => StemSide::A,
+        _ => side,
+    };
+    sides.iter().map(kept).collect()
 }
 
 /// 8: places and ends do not tell the same network. The stem sides are those of the boxes, in their order.

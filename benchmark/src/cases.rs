@@ -7,7 +7,7 @@ use reference::generate::steps::{drive_by, step_bytes, Driver, Mix};
 use reference::generate::tables::{largest_table, table_of};
 use reference::line::start_line;
 use reference::step::{step, Step};
-use reference::table::{Segment, SwitchBox, Table, TrainEntry, BORDER, LINK};
+use reference::table::{Segment, SwitchBox, Table, TrainEntry, BORDER, LINK, MAX_BOXES, MAX_SEGMENTS, MAX_TRAINS, POINT};
 use reference::table_read::read_table;
 use reference::table_write::file_bytes;
 
@@ -82,6 +82,17 @@ pub fn largest_giving_back() -> Case {
     Case::giving_back("largest, giving back".to_string(), largest_table(&mut Prng::for_case(0, 0)))
 }
 
+/// As many boxes as there can be, and as many points as these can have: a border has one segment end, a point three, and 96
+/// segments have 192.
+pub fn points() -> Case {
+    let style = Style { link: 0, split: 6, merge: 5, diamond: 0, start: 3, close: 0 };
+    let table = table_of(&mut Prng::for_case(13, 7), style, MAX_SEGMENTS, MAX_TRAINS);
+    let count = |kind| table.boxes.iter().filter(|b| b.kind == kind).count();
+    assert_eq!((table.boxes.len(), count(BORDER), count(POINT)), (MAX_BOXES, 48, 48));
+    assert_eq!((table.segments.len(), table.trains.len()), (MAX_SEGMENTS, MAX_TRAINS));
+    Case::driven("96 boxes, 48 points".to_string(), table)
+}
+
 /// Each step three random bytes, kinds 7 and 8 with 128 more in their place.
 pub fn random_bytes() -> Case {
     Case::new("random bytes".to_string(), largest_table(&mut Prng::for_case(0, 0)), |rng, table| {
@@ -95,12 +106,12 @@ pub fn random_bytes() -> Case {
 }
 
 /// Table S, with steps of a driver and of waiting trains; the largest tables that the generator makes; one of them with
-/// give-backs among the steps, and with random bytes for steps; the longest single track, its segments numbered in three ways; tables of growing n and m with few trains, and
-/// of growing k.
+/// give-backs among the steps, and with random bytes for steps; the most boxes with the most points; the longest single track, its
+/// segments numbered in three ways; tables of growing n and m with few trains, and of growing k.
 pub fn all() -> Vec<Case> {
     let mut all = vec![table_s(), waiting()];
     all.extend((0..4).map(largest));
-    all.extend([largest_giving_back(), random_bytes()]);
+    all.extend([largest_giving_back(), random_bytes(), points()]);
     let mut numbers: Vec<u8> = (1..=95).collect();
     all.push(Case::driven("track in order".to_string(), track(&numbers)));
     numbers.reverse();

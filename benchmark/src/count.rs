@@ -1,8 +1,8 @@
 //! One operation of one engine, for a program that counts instructions: the arguments are engine, operation, table (`s`,
-//! `largest` or `random`) and a number, of steps or of readings. All else is the same for every number, so that the difference
-//! of two counts is of the operation alone.
+//! `largest`, `points` or `random`) and a number, of steps or of readings. All else is the same for every number, so that the
+//! difference of two counts is of the operation alone.
 
-use crate::cases::{largest, random_bytes, table_s};
+use crate::cases::{largest, points, random_bytes, table_s};
 use crate::engines::{ENGINES, OPERATIONS, READING};
 
 pub fn count(arguments: &[String]) {
@@ -14,6 +14,7 @@ pub fn count(arguments: &[String]) {
     let case = match &table[..] {
         "s" => table_s(),
         "largest" => largest(0),
+        "points" => points(),
         "random" => random_bytes(),
         _ => panic!("no such table"),
     };

@@ -207,6 +207,12 @@ faults! {
         RouteDirectionIgnored,
         /// A segment end whose box does not list it is accepted.
         UnlistedEndTaken,
+        /// The stem side of box 1 is kept for all boxes.
+        StemSideOfBoxOne,
+        /// The stem side is kept as A where it is B, and as B where it is A.
+        StemSidesSwapped,
+        /// A stem with neither end at its box is kept as one with its A end there.
+        NeitherSideIsA,
         /// 10, 11 and 28 are looked at train by train.
         TrainByTrain,
         /// 12 is looked at before the search for 11 and 28.
@@ -251,29 +257,16 @@ faults! {
 impl Fault {
     /// Whether the fault is in the reader.
     pub fn in_reader(self) -> bool {
-        matches!(
-            self,
-            Fault::BranchOnStemSide
-                | Fault::ReaderRefusesAll
-                | Fault::LoopTaken
-                | Fault::TrailingBytesTaken
-                | Fault::SameFirstTaken
-                | Fault::BrokenRouteTaken
-                | Fault::RouteDirectionIgnored
-                | Fault::UnlistedEndTaken
-                | Fault::TrainByTrain
-                | Fault::FirstBeforeRoute
-                | Fault::LoopBeforeListing
-                | Fault::RouteLengthBeforeFileLength
-                | Fault::JumpsOfAllFirst
-                | Fault::NumbersOfAllFirst
-                | Fault::JumpBeforeNumber
-                | Fault::LastTrainNotSearched
-                | Fault::TrainsFromZero
-                | Fault::PlacesFromZero
-                | Fault::JumpAtPlaceBefore
-                | Fault::ShapeTellsTrain
-        )
+        let listed = |heading| self.listed_under(heading);
+        matches!(self, Fault::BranchOnStemSide | Fault::ReaderRefusesAll)
+            || listed("Reader")
+            || listed("Train and place of a refused route")
+    }
+
+    /// Whether the group with this heading has the fault.
+    fn listed_under(self, heading: &str) -> bool {
+        let has = |faults: &[(Fault, &str)]| faults.iter().any(|&(fault, _)| fault == self);
+        GROUPS.iter().any(|&(group, faults)| group == heading && has(faults))
     }
 
     /// Whether the fault is in the check of a line record.

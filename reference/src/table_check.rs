@@ -23,7 +23,8 @@ pub fn check_body_with(table: &Table, fault: Fault) -> Result<(), Refusal> {
     stop(table.segments.iter().any(|s| ends_fail(table, s)), 6)?;
     stop(table.boxes.iter().any(|b| box_fails(table, b)), 7)?;
     stop(fault == Fault::LoopBeforeListing && has_loop(table), 9)?;
-    stop(listing_fails(table, fault), 8)?;
+    let stem_sides = kept_sides(table, fault);
+    stop(listing_fails(table, &stem_sides, fault), 8)?;
     stop(fault != Fault::LoopTaken && has_loop(table), 9)?;
     check_trains(table, fault)
 }
@@ -100,17 +101,59 @@ pub fn box_fails(table: &Table, b: &SwitchBox) -> bool {
         || !b.position_fits(b.position)
 }
 
-/// 8: places and ends do not tell the same network.
-fn listing_fails(table: &Table, fault: Fault) -> bool {
-    let boxes_fail = table.boxes.iter().enumerate().any(|(i, b)| {
+/// Which end of its stem segment a box has.
+#[derive(Clone, Copy, Debug, PartialEq, Eq)]
+pub enum StemSide {
+    /// The A end of the stem segment is at this box, and its B end at another one.
+    A,
+    /// The B end of the stem segment is at this box, and its A end at another one.
+    B,
+    /// Neither end of the stem segment is at this box. Such a box gets code 8.
+    Neither,
+}
+
+impl StemSide {
+    /// Whether the segment has its end on this side at the box.
+    fn has(self, segment: &Segment, number: u8) -> bool {
+        match self {
+            StemSide::A => segment.a == number,
+            StemSide::B => segment.b == number,
+            StemSide::Neither => false,
+        }
+    }
+}
+
+/// The stem side of each box, in the order of the boxes, for a table that 6 and 7 let through.
+pub fn stem_sides(table: &Table) -> Vec<StemSide> {
+    let side = |(i, b): (usize, &SwitchBox)| match side_at(table, b.stem, (i + 1) as u8) {
+        Some(0) => StemSide::A,
+        Some(_) => StemSide::B,
+        None => StemSide::Neither,
+    };
+    table.boxes.iter().enumerate().map(side).collect()
+}
+
+/// The stem sides that are kept for code 8, some of them wrong where a fault makes them so.
+fn kept_sides(table: &Table, fault: Fault) -> Vec<StemSide> {
+    let sides = stem_sides(table);
+    let kept = |&side: &StemSide| match (fault, side) {
+        (Fault::StemSideOfBoxOne, _) => sides[0],
+        (Fault::StemSidesSwapped, StemSide::A) => StemSide::B,
+        (Fault::StemSidesSwapped, StemSide::B) => StemSide::A,
+        (Fault::NeitherSideIsA, StemSide::Neither) => StemSide::A,
+        _ => side,
+    };
+    sides.iter().map(kept).collect()
+}
+
+/// 8: places and ends do not tell the same network. The stem sides are those of the boxes, in their order.
+fn listing_fails(table: &Table, stem_sides: &[StemSide], fault: Fault) -> bool {
+    let boxes_fail = table.boxes.iter().zip(stem_sides).enumerate().any(|(i, (b, &stem_side))| {
         let number = (i + 1) as u8;
-        let sides: Vec<Option<u8>> = b.places()[..b.used()]
-            .iter()
-            .map(|&s| side_at(table, s, number))
-            .collect();
-        let not_there = sides.iter().any(|side| side.is_none());
-        let stem_side = sides[1..].contains(&sides[0]);
-        not_there || (stem_side && fault != Fault::BranchOnStemSide)
+        let branches: Vec<&Segment> = b.places()[1..b.used()].iter().filter_map(|&s| table.segment(s)).collect();
+        let not_there = |s: &&Segment| s.a != number && s.b != number;
+        let on_stem_side = |s: &&Segment| stem_side.has(s, number) && fault != Fault::BranchOnStemSide;
+        stem_side == StemSide::Neither || branches.iter().any(not_there) || branches.iter().any(on_stem_side)
     });
     let lists = |number: u8, s: u8| {
         table

@@ -7,6 +7,7 @@ use reference::counts::{file_codes, step_codes, Counts, CODES};
 use reference::fast;
 use reference::fault::{Fault, FAULTS};
 use reference::generate::damage::damaged_file;
+use reference::generate::listing::{damaged_listing, ListingCounts};
 use reference::generate::lock_asked::LockCounts;
 use reference::generate::made_up::{changes, step_on, Aim, AIMS};
 use reference::generate::outside::table_with_steps;
@@ -106,6 +107,7 @@ fn records_alike(case: u64, fault: Fault, counts: &mut RecordCounts) -> bool {
 #[test]
 fn files() {
     let mut codes = [0; CODES];
+    let mut listings = ListingCounts::default();
     for case in 0..300 {
         let mut rng = Prng::for_case(31, case);
         let table = match case % 10 {
@@ -117,10 +119,16 @@ fn files() {
             assert!(reads_alike(&file, Fault::None), "{file:?}");
             codes[usize::from(code_of(&read_table(&file)))] += 1;
         }
+        for _ in 0..10 {
+            let damaged = damaged_listing(&mut rng, &table);
+            assert!(reads_alike(&file_bytes(&damaged), Fault::None), "{damaged:?}");
+            listings.add(&damaged);
+        }
         let file = file_bytes(&table);
         assert!(reads_alike(&file, Fault::None) && writes_alike(&table, &fast_start(&file)));
     }
     assert!(file_codes().all(|code| codes[code] > 100), "{codes:?}");
+    assert!(listings.fewest() > 50, "{listings}");
 }
 
 /// Every change of a byte of a small file, and every front part of a large one.
@@ -247,6 +255,7 @@ fn faults_are_found() {
                 let mut rng = Prng::for_case(36, case);
                 let table = accepted_table(&mut rng);
                 (0..40).all(|aim| reads_alike(&damaged_file(&mut rng, &table, aim), fault))
+                    && (0..10).all(|_| reads_alike(&file_bytes(&damaged_listing(&mut rng, &table)), fault))
             }),
             _ => (0..200).all(|case| {
                 let (table, steps) = table_with_steps(&mut Prng::for_case(36, case), case);

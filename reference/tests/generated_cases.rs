@@ -7,6 +7,7 @@ use reference::counts::{file_codes, list_codes, CODES};
 use reference::demand::{check_demand, Clause};
 use reference::fault::{Fault, FAULTS};
 use reference::generate::damage::damaged_file;
+use reference::generate::listing::damaged_listing;
 use reference::generate::made_up::{changes, AIMS};
 use reference::generate::prng::Prng;
 use reference::generate::steps::{drive, drive_by, Driver};
@@ -252,13 +253,14 @@ fn reader_faults_are_seen() {
         for case in 0..CASES {
             let mut rng = Prng::for_case(15, case);
             let table = accepted_table(&mut rng);
-            for aim in 0..20 {
-                let file = damaged_file(&mut rng, &table, aim);
+            let mut files: Vec<Vec<u8>> = (0..20).map(|aim| damaged_file(&mut rng, &table, aim)).collect();
+            files.extend((0..5).map(|_| file_bytes(&damaged_listing(&mut rng, &table))));
+            for file in files {
                 let (right, faulty) = (read_table(&file), read_table_with(&file, fault));
                 differ += u32::from(right.err() != faulty.err());
             }
         }
-        assert!(differ > 0, "{fault:?}");
+        assert!(differ > 20, "{fault:?} {differ}");
     }
 }
 

@@ -7,6 +7,7 @@ use reference::compare::run_case;
 use reference::demand::{Clauses, CLAUSES};
 use reference::fault::{Fault, FAULTS};
 use reference::generate::damage::damaged_file;
+use reference::generate::listing::damaged_listing;
 use reference::generate::made_up::{changes, AIMS};
 use reference::generate::prng::Prng;
 use reference::generate::steps::drive;
@@ -100,6 +101,8 @@ fn reader_fault(fault: Fault, seed: u64, cases: u64, steps: usize) {
         let table = accepted_table(&mut rng);
         let mut all = vec![file_bytes(&table)];
         all.extend((0..40).map(|i| damaged_file(&mut rng, &table, i % 20)));
+        let mut listing_rng = Prng::for_case(seed + 1, case);
+        all.extend((0..10).map(|_| file_bytes(&damaged_listing(&mut listing_rng, &table))));
         for file in all {
             files += 1;
             let (right, faulty) = (read_table(&file), read_table_with(&file, fault));
@@ -142,7 +145,8 @@ fn record_fault(fault: Fault, seed: u64, cases: u64, steps: usize) {
 /// New routes over a network that was wrongly accepted, so that trains use
 /// what is wrong with it; a table with wrong trains keeps its own.
 fn draw_routes(rng: &mut Prng, table: &mut Table, fault: Fault) {
-    if !matches!(fault, Fault::BranchOnStemSide | Fault::LoopTaken | Fault::UnlistedEndTaken) {
+    let of_sides = matches!(fault, Fault::StemSideOfBoxOne | Fault::StemSidesSwapped | Fault::NeitherSideIsA);
+    if !of_sides && !matches!(fault, Fault::BranchOnStemSide | Fault::LoopTaken | Fault::UnlistedEndTaken) {
         return;
     }
     for i in 0..table.trains.len() {

@@ -1,11 +1,12 @@
-//! Counts how often each code comes up over generated files and steps, and
-//! what becomes of requests and of what is given back.
+//! Counts how often each code comes up over generated files and steps, what
+//! becomes of requests and of what is given back, and what code 8 finds.
 //! Arguments: seed, number of tables, damaged files per table, steps per
 //! table.
 
 use reference::argument::argument;
 use reference::counts::{print_codes, CODES};
 use reference::generate::damage::damaged_file;
+use reference::generate::listing::{damaged_listing, ListingCounts};
 use reference::generate::lock_asked::LockCounts;
 use reference::generate::prng::Prng;
 use reference::generate::steps::Driver;
@@ -24,6 +25,7 @@ fn main() {
     let mut step_codes = [0; CODES];
     let mut messages = Messages::default();
     let mut locks = LockCounts::default();
+    let mut listings = ListingCounts::default();
     // 11 and 28, in train 1 and in later ones, at places 1 to 4 and later ones.
     let mut places = [[[0; 5]; 2]; 2];
     let (mut refused, mut farthest, mut most) = (0, 0, [0; 4]);
@@ -47,6 +49,8 @@ fn main() {
                 places[row][usize::from(train > 1)][place] += 1;
             }
         }
+        let mut listing_rng = Prng::for_case(seed + 1, case);
+        (0..damages / 4).for_each(|_| listings.add(&damaged_listing(&mut listing_rng, &table)));
         let longest = table.trains.iter().map(|t| t.route.len()).max().unwrap_or(0);
         let sizes = [table.segments.len(), table.boxes.len(), table.trains.len(), longest];
         for (kept, size) in most.iter_mut().zip(sizes) {
@@ -83,6 +87,7 @@ fn main() {
     let [again, handed_on] = messages.after_back;
     print!("{locks}");
     println!("given back, then had again by the same train: {again}, by another one: {handed_on}");
+    print!("{listings}");
 }
 
 /// What became of messages.

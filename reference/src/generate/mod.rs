@@ -6,6 +6,7 @@ pub mod damage;
 pub mod draft;
 pub mod example;
 mod harmless;
+pub mod listing;
 pub mod lock_asked;
 pub mod made_up;
 pub mod outside;

@@ -12,11 +12,10 @@ use lib.ListN.{length, getD}
 use Rattle.rules.specs.declared.Segment.{Segment}
 use Rattle.rules.specs.declared.BoxPlan.{BoxPlan}
 use Rattle.rules.specs.Rows.{anyOf, outside, nth}
-use Rattle.rules.proofs.Tests.{tests, facts, answered, outside-false-iff, cond-same}
-use Rattle.rules.proofs.Accepted.{BoxOf}
-use Rattle.rules.proofs.Rows.{any-false-at, any-false, none-found, nth-at, nth-before, nth-past}
-use Rattle.rules.specs.Track.{noSegment, noBoxPlan, Track, trackBy, farBox, isPoint, positionFits}
-use Rattle.rules.specs.Network.{endsFault, placeFault, branchesFault, planFault, lists, planFaultAt, unlistedFault}
+use Rattle.rules.proofs.Tests.{tests, answered, cond-same}
+use Rattle.rules.proofs.Rows.{none-found, nth-at, nth-past}
+use Rattle.rules.specs.Track.{noSegment, noBoxPlan, trackBy, farBox, isPoint, positionFits}
+use Rattle.rules.specs.Network.{placeFault, branchesFault, planFault, planFaultAt}
 
 -- The box at index i is that of number i + 1; r is what a function answered for it, and v what a branch found.
 module _ (i : ℕ) (r v : Bool) where
@@ -98,36 +97,3 @@ module _ (l : List Segment) (d : ℕ) where
   pub far-a : (i : ℕ) → (d ≡ 0 → ⊥) → getD l i noSegment .a ≡ farBox (trackBy l) d (i + 1)
   unfolding farBox trackBy nth
   far-a i e = rw (add-one, ne-eqb d 0 e)
-
--- Where code 6 finds nothing, both ends of the segment at index i are at boxes.
-module _ (n m : ℕ) (track : Track) (none : anyOf n (endsFault m track) ≡ false) where
-  pub ends-within : (i : ℕ) → i < n → BoxOf m (track .endA (i + 1)) × BoxOf m (track .endB (i + 1))
-  unfolding endsFault
-  ends-within i h =
-      let both = simp (facts, outside-false-iff) at (any-false-at (endsFault m track) n (i + 1) none (omega arith) (omega arith)) in
-      omega arith
-
-  -- It finds nothing either where there are more boxes.
-  pub ends-wider : (p : ℕ) → m ≤ p → anyOf n (endsFault p track) ≡ false
-  unfolding endsFault
-  ends-wider p k =
-      any-false (endsFault p track) n λ s l h.
-      let (both, differ) = simp (facts, outside-false-iff) at (any-false-at (endsFault m track) n s none l h) in
-      simp (facts, outside-false-iff) (omega arith, differ)
-
--- What was found at the two boxes of a segment's ends.
-pub listed-at : (plans : List BoxPlan) (x s : ℕ) (r v : Bool) → 1 ≤ x → r ≡ lists (getD plans (x - 1) noBoxPlan) s → r ≡ v → lists (nth plans x noBoxPlan) s ≡ v
-listed-at plans x s r v l e f = ap (λ (p : BoxPlan). lists p s) (nth-before plans x noBoxPlan l) ∙ answered _ _ _ e f
-
-module _ (track : Track) (plans : List BoxPlan) (s : ℕ) where
-  pub unlisted-a : lists (nth plans (track .endA s) noBoxPlan) s ≡ false → unlistedFault track plans s ≡ true
-  unfolding unlistedFault
-  unlisted-a e = search tests depth 8
-
-  pub unlisted-b : lists (nth plans (track .endB s) noBoxPlan) s ≡ false → unlistedFault track plans s ≡ true
-  unfolding unlistedFault
-  unlisted-b e = search tests depth 8
-
-  pub listed-both : lists (nth plans (track .endA s) noBoxPlan) s ≡ true → lists (nth plans (track .endB s) noBoxPlan) s ≡ true → unlistedFault track plans s ≡ false
-  unfolding unlistedFault
-  listed-both e f = search tests depth 8

@@ -1,8 +1,7 @@
 -- Code 8 at the boxes by their stem sides: where codes 6 and 7 find nothing, it is found by `sidedFault` exactly where `boxFault` has it.
 use Prim.Native.Nat.{ℕ, _+_, _≤_}
 use mathlib.Core.Path.{_≡_, refl, sym, _∙_}
-use mathlib.Core.Logic.{_≢_}
-use mathlib.Core.Bool.{Bool, true, false, not, cond, _&&_, _||_, false≢true}
+use mathlib.Core.Bool.{Bool, true, false, not, cond, _&&_, _||_}
 use mathlib.Core.List.{List}
 use native.Mathlib.Omega.{arith}
 use lib.Dec.{eqb}
@@ -12,7 +11,7 @@ use Rattle.rules.specs.declared.BoxPlan.{BoxPlan}
 use Rattle.rules.specs.declared.StemSide.{StemSide}
 use Rattle.rules.specs.declared.StemSide.the-variants.{AEnd, BEnd, Neither}
 use Rattle.rules.specs.Rows.{anyOf, nth, listOf, filled}
-use Rattle.rules.specs.Track.{Track, noBoxPlan, isPoint}
+use Rattle.rules.specs.Track.{Track, noBoxPlan}
 use Rattle.rules.specs.Network.{endsFault, placeFault, planFault, hasEndA, hasEndB, listedFault, sideFault, boxFault, planFaultAt, boxFaultAt}
 use Rattle.rules.specs.StemSide.{isSide, stemSide, stemSideAt}
 use Rattle.rules.proofs.Tests.{facts, answered, outside-false-iff}

@@ -1,4 +1,6 @@
 -- The columns that `far_boxes` makes.
 pub mod Column
--- What the functions behind code 8 test, by the stem side of a box. All else is stated by the definitions of `rules`.
+-- What the functions behind code 8 test: a box by its stem side, and how many segments the boxes list. All else is stated by the
+-- definitions of `rules`.
 pub mod Sided
+pub mod Places

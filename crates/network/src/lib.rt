@@ -177,7 +177,7 @@ pub fn network_code(n: u8, m: u8, plans: [BoxPlan; 96], a: &[u8; 256], b: &[u8; 
     if listing::some_listing_faulty(m, plans, sides, a, b) {
         return 8;
     }
-    if listing::some_unlisted(n, plans, a, b) {
+    if listing::some_unlisted(n, m, plans) {
         return 8;
     }
     if loops::has_loop(n, m, plans, a, b) {

@@ -2,14 +2,15 @@
 use rules::BoxPlan;
 use rules::StemSide;
 ghost use mathlib.Core.Path.{_≡_};
-ghost use mathlib.Core.Bool.{false};
-ghost use Prim.Native.Nat.{_≤_};
+ghost use mathlib.Core.Bool.{not};
+ghost use Prim.Native.Nat.{_*_, _≤_};
+ghost use lib.Dec.{eqb};
 ghost use lib.ListN.{getD};
 ghost use Rattle.rules.specs.Rows.{anyOf, listOf, filled};
 ghost use Rattle.rules.specs.Track.{trackIn};
-ghost use Rattle.rules.specs.Network.{endsFault, lists, unlistedFault};
 ghost use Rattle.rules.specs.StemSide.{stemSide, stemSideAt};
 ghost use Rattle.network.specs.Sided.{branchAway, someBranchAway, sidedFault, sidedFaultAt};
+ghost use Rattle.network.specs.Places.{placesOf};
 
 // The stem side of the box with this number, whose stem is segment s.
 fn stem_side(number: u8, s: u8, a: &[u8; 256], b: &[u8; 256]) -> StemSide
@@ -100,37 +101,27 @@ pub(crate) fn some_listing_faulty(
     false
 }
 
-// The box lists the segment at one of its places.
-fn lists(p: BoxPlan, s: u8) -> bool
-    ensures { λ r. ⌜ r ≡ lists p s ⌝ }
+// How many segments boxes 1 .. m list: a border one, a link two, a point three.
+fn places(m: u8, plans: [BoxPlan; 96]) -> u16
+    requires { ⌜ m ≤ 96 ⌝ }
+    ensures { λ r. ⌜ r ≡ placesOf m plans ⌝ }
 {
-    if p.stem == s {
-        return true;
+    let last = m as usize;
+    let mut count: u16 = 0;
+    let mut i: usize = 0;
+    while i < last {
+        let p = plans[i];
+        count += p.kind as u16 + 1;
+        i += 1;
     }
-    if p.left == s {
-        return true;
-    }
-    p.right == s
+    count
 }
 
-// Code 8: some segment is not listed by the box at one of its ends. No end is without its box: code 6 comes before.
-pub(crate) fn some_unlisted(n: u8, plans: [BoxPlan; 96], a: &[u8; 256], b: &[u8; 256]) -> bool
-    requires { ⌜ anyOf n (endsFault 96 (trackIn (now a) (now b))) ≡ false ⌝ }
-    ensures { λ r. ⌜ r ≡ anyOf n (unlistedFault (trackIn (now (a .entry)) (now (b .entry))) plans) ⌝ }
+// Code 8 at the segments, where it has found nothing at the boxes: the boxes list segments by ends that are there, and none twice. So
+// some end of the n segments is not listed by its box exactly where they do not list 2 n.
+pub(crate) fn some_unlisted(n: u8, m: u8, plans: [BoxPlan; 96]) -> bool
+    requires { ⌜ m ≤ 96 ⌝ }
+    ensures { λ r. ⌜ r ≡ not (eqb (placesOf m plans) (2 * n)) ⌝ }
 {
-    let mut number: u8 = 0;
-    while number < n {
-        number += 1;
-        let at_a = (a[number as usize] - 1) as usize;
-        let at_b = (b[number as usize] - 1) as usize;
-        let p = plans[at_a];
-        let q = plans[at_b];
-        if !lists(p, number) {
-            return true;
-        }
-        if !lists(q, number) {
-            return true;
-        }
-    }
-    false
+    places(m, plans) != 2 * (n as u16)
 }

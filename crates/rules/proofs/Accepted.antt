@@ -160,7 +160,7 @@ unfolding limitsFault
 limits-iff n m k = simp (facts, outside-false-iff) (omega arith)
 
 -- Code 6.
-ends-iff : (m : ℕ) (track : Track) (s : ℕ) → (endsFault m track s ≡ false) ↔ Ends m track s
+pub ends-iff : (m : ℕ) (track : Track) (s : ℕ) → (endsFault m track s ≡ false) ↔ Ends m track s
 unfolding endsFault nearBox farBox
 ends-iff m track s =
     simp (facts, box-iff) (
@@ -186,7 +186,7 @@ use-iff n case false s h =
     )
 
 -- Code 7: a box.
-plan-iff : (n : ℕ) (p : BoxPlan) → (planFault n p ≡ false) ↔ Planned n p
+pub plan-iff : (n : ℕ) (p : BoxPlan) → (planFault n p ≡ false) ↔ Planned n p
 unfolding planFault branchesFault isPoint
 plan-iff n p =
     simp (
@@ -241,7 +241,7 @@ side-iff track b stem s =
     simp facts
     (λ e n. each-end track (λ f. f stem ≡ b → f s ≢ b) (e n .0) (e n .1), λ h n. (h n 0, h n 1))
 
-sides-iff : (track : Track) (b : ℕ) (p : BoxPlan) → (boxFault track b p ≡ false) ↔ Sides track b p
+pub sides-iff : (track : Track) (b : ℕ) (p : BoxPlan) → (boxFault track b p ≡ false) ↔ Sides track b p
 unfolding boxFault
 sides-iff track b p =
     simp (facts, listed-iff, side-iff) (

@@ -7,8 +7,8 @@ use native.Mathlib.Numerals.{add-one}
 use native.Mathlib.Omega.{arith}
 use lib.ListN.{length, getD, set, take, drop, replicate, length-append, length-take, length-drop, replicate-append-replicate}
 use lib.Seq.{sets, take-all, take-take, take-suc, getD-drop, length-take-le}
-use Rattle.rules.specs.Rows.{listOf, joinOf, filled}
-use Rattle.rules.proofs.Rows.{list-none, list-more, list-length, join-more, join-length, filled-none, filled-length, filled-set, take-replicate, sets-append}
+use Rattle.rules.specs.Rows.{joinOf, filled}
+use Rattle.rules.proofs.Rows.{join-more, join-length, filled-length, filled-set, take-replicate, sets-append}
 
 module _ {ℓ} {A : Type ℓ} where
   -- A part that is copied, with one more.

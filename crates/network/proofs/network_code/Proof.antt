@@ -8,8 +8,9 @@ use Rattle.rules.specs.Track.{trackIn}
 use Rattle.rules.specs.Network.{endsFault, planFaultAt, boxFaultAt, unlistedFault}
 use Rattle.rules.proofs.Tests.{answered}
 use Rattle.rules.proofs.Rows.{length-mapped}
-use Rattle.network.proofs.Laws.{ends-wider, few-boxes}
+use Rattle.network.proofs.Laws.{few-boxes}
 use Rattle.network.proofs.Sides.{boxes-by-sides}
+use Rattle.network.proofs.Listed.{unlisted-by-places}
 use Rattle.network.proofs.Codes.{network-6, network-7, boxes-8, segments-8, network-9, network-0}
 use Rattle.network.proofs.network_code.Statement.{statement}
 use Rattle.network.proofs.network_code.Tie as tie
@@ -39,10 +40,19 @@ boxes-fine : (c : tie.Else3) →
     anyOf (s .m) (boxFaultAt (trackIn (s .a .now) (s .b .now)) (s .plans)) ≡ false
 boxes-fine c = answered _ _ _ (by-sides (c .before)) (c .if3 .left)
 
+-- What is found by the places of the boxes is code 8 at the segments.
+by-places : (c : tie.After-some-unlisted) →
+    let s = c .before .before .before .before .before .before .before .before .args in
+    c .some-unlisted .result ≡ anyOf (s .n) (unlistedFault (trackIn (s .a .now) (s .b .now)) (s .plans))
+by-places c =
+    let boxes = c .before in
+    let plans = boxes .before .before .before in
+    c .some-unlisted .ensures ∙ unlisted-by-places _ _ _ _ (ends-fine (plans .before .before)) (plans-fine plans) (boxes-fine boxes)
+
 segments-fine : (c : tie.Else4) →
     let s = c .before .before .before .before .before .before .before .before .before .args in
     anyOf (s .n) (unlistedFault (trackIn (s .a .now) (s .b .now)) (s .plans)) ≡ false
-segments-fine c = answered _ _ _ (c .before .some-unlisted .ensures) (c .if4 .left)
+segments-fine c = answered _ _ _ (by-places (c .before)) (c .if4 .left)
 
 some-ends-faulty-requires : tie.Need-some-ends-faulty-requires
 some-ends-faulty-requires c κs = search needs
@@ -74,9 +84,7 @@ returns-3 c =
     (answered _ _ _ (by-sides (c .before)) (c .if3 .taken))
 
 some-unlisted-requires : tie.Need-some-unlisted-requires
-some-unlisted-requires c κs =
-    let plans = c .before .before .before in
-    ends-wider _ _ _ (ends-fine (plans .before .before)) 96 (few plans)
+some-unlisted-requires c κs = few (c .before .before .before)
 
 returns-4 : tie.Need-returns-4
 returns-4 c =
@@ -84,7 +92,7 @@ returns-4 c =
     segments-8 _ _ _ _
     (ends-fine (plans .before .before))
     (plans-fine plans)
-    (answered _ _ _ (c .before .some-unlisted .ensures) (c .if4 .taken))
+    (answered _ _ _ (by-places (c .before)) (c .if4 .taken))
 
 has-loop-requires : tie.Need-has-loop-requires
 has-loop-requires c κs = search needs

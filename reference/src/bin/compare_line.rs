@@ -8,6 +8,7 @@
 use reference::argument::argument;
 use reference::counts::{print_codes, Counts, CODES};
 use reference::generate::damage::damaged_file;
+use reference::generate::listing::damaged_listing;
 use reference::generate::outside::{driven, table_with_steps};
 use reference::generate::prng::Prng;
 use reference::generate::tables::largest_table;
@@ -69,6 +70,9 @@ fn main() -> Result<()> {
     for case in 0..tables {
         comparison.table(seed, case)?;
     }
+    for case in 0..tables {
+        comparison.listing(seed, case)?;
+    }
     comparison.print(seed, tables);
     if comparison.differences > 0 {
         eprintln!("the first of them are in {}", root.display());
@@ -86,6 +90,15 @@ impl Comparison {
         let damaged = damaged_file(&mut rng, &table, (case % 21) as u8);
         steps.truncate(rng.below(40));
         self.run(&Net::Bytes(damaged), &steps)
+    }
+
+    /// The same table with a box, a place of a box or an end of a segment changed, and a short list of steps.
+    fn listing(&mut self, seed: u64, case: u64) -> Result<()> {
+        let (table, mut steps) = table_with_steps(&mut Prng::for_case(seed, case), case);
+        let mut rng = Prng::for_case(seed + 3, case);
+        let damaged = damaged_listing(&mut rng, &table);
+        steps.truncate(rng.below(40));
+        self.run(&Net::Bytes(file_bytes(&damaged)), &steps)
     }
 
     /// No file, an empty one, a folder, short and long ones.

@@ -1,6 +1,6 @@
 //! Prints generated cases as theorems about the definitions of the crate `rules`, each proved by
-//! computing: codes and bytes of files, the writer's buffer, routes, printouts, lines, places, orders,
-//! atomic lines, atomic steps that are stopped, and single steps on records made up from lines that
+//! computing: codes, stem sides and bytes of files, the writer's buffer, routes, printouts, lines, places,
+//! orders, atomic lines, atomic steps that are stopped, and single steps on records made up from lines that
 //! steps have reached, among them locks answered and heard, with all that a box can find in turn.
 //! `tools/compare-definitions` has them checked.
 //! Arguments: seed, number of cases, steps per case.
@@ -10,6 +10,7 @@ use std::fmt::Display;
 use reference::argument::argument;
 use reference::atomic::{atomic_order, fold_places, WholeLine};
 use reference::generate::damage::damaged_file;
+use reference::generate::listing::damaged_listing;
 use reference::generate::lock_asked::{LockAsked, LOCKS_ASKED};
 use reference::generate::made_up::{lock_changes, step_on, Aim};
 use reference::generate::prng::Prng;
@@ -23,6 +24,7 @@ use reference::refusal::numbers_of;
 use reference::step::{step_checked, Step};
 use reference::step_request::is_point;
 use reference::table::{Table, TrainEntry};
+use reference::table_check::{stem_sides, StemSide};
 use reference::table_read::read_table;
 use reference::table_write::{file_bytes, write_table};
 
@@ -44,6 +46,7 @@ fn main() {
         atomic_case(&mut rng, case, &table, steps as usize);
         made_up_case(&mut rng, case, &table, steps as usize);
         lock_case(&mut rng, case, steps as usize);
+        listing_case(&mut Prng::for_case(seed + 1, case), case, &table);
     }
 }
 
@@ -63,7 +66,7 @@ use Rattle.rules.specs.Rows.{filled}
 use Rattle.rules.specs.File.{decode}
 use Rattle.rules.specs.Line.{noBox, noTrain}
 use Rattle.rules.specs.Steps.{Step}
-use Rattle.rules.specs.Cases.{codeOf, rewritten, writtenTo, routeOf, printed, orderOf, placesOf, lineOf, atomicLineOf, atomicAnswersTo, checkedLine, stepOf, found}
+use Rattle.rules.specs.Cases.{codeOf, sidesOf, rewritten, writtenTo, routeOf, printed, orderOf, placesOf, lineOf, atomicLineOf, atomicAnswersTo, checkedLine, stepOf, found}
 use Rattle.rules.proofs.Computing.{definitions}
 
 made-box : Bool → ℕ → ℕ → ℕ → ℕ → ℕ → SwitchBox
@@ -222,6 +225,26 @@ fn damaged_case(rng: &mut Prng, case: u64, table: &Table) {
             theorem(&format!("refused-route-{name}"), &format!("routeOf {bytes} {asked}"), &[code, train, place, 0]);
         }
     }
+}
+
+/// The stem sides of the table, and of one with its boxes or ends damaged; what refuses the latter.
+fn listing_case(rng: &mut Prng, case: u64, table: &Table) {
+    let damaged = damaged_listing(rng, table);
+    sides(&format!("sides-{case}"), table);
+    sides(&format!("listing-sides-{case}"), &damaged);
+    let file = file_bytes(&damaged);
+    theorem(&format!("listing-{case}"), &format!("codeOf {}", list(&file)), &numbers_of(&read_table(&file)));
+}
+
+/// A theorem about the stem sides of all boxes.
+fn sides(name: &str, table: &Table) {
+    let number = |side: &StemSide| match side {
+        StemSide::Neither => 0,
+        StemSide::A => 1,
+        StemSide::B => 2,
+    };
+    let numbers: Vec<u8> = stem_sides(table).iter().map(number).collect();
+    theorem(name, &format!("sidesOf {}", list(&file_bytes(table))), &numbers);
 }
 
 /// A list of atomic steps chosen freely, some of them stopped.

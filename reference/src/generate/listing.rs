@@ -77,6 +77,7 @@ pub enum Finding {
     EndNotListed,
 }
 
+/// All of them, in their order.
 pub const FINDINGS: [Finding; 5] = [
     Finding::StemNotThere,
     Finding::BranchNotThere,
@@ -108,6 +109,11 @@ impl Finding {
     }
 }
 
+/// All that code 8 finds in a table that 6 and 7 let through.
+pub fn found_in(table: &Table) -> Vec<Finding> {
+    FINDINGS.into_iter().filter(|finding| finding.is_in(table)).collect()
+}
+
 /// How often each comes up.
 #[derive(Clone, Copy, Debug, Default)]
 pub struct ListingCounts {
@@ -122,13 +128,13 @@ pub struct ListingCounts {
 impl ListingCounts {
     /// Counts a table that 6 and 7 let through.
     pub fn add(&mut self, table: &Table) {
-        let found = FINDINGS.map(|finding| finding.is_in(table));
-        let kinds = found.iter().filter(|&&is_in| is_in).count();
+        let found = found_in(table);
         self.tables[0] += 1;
-        self.tables[1] += usize::from(kinds == 0);
-        for (counts, _) in self.found.iter_mut().zip(found).filter(|&(_, is_in)| is_in) {
+        self.tables[1] += usize::from(found.is_empty());
+        for &finding in &found {
+            let counts = &mut self.found[finding as usize];
             counts[0] += 1;
-            counts[1] += usize::from(kinds == 1);
+            counts[1] += usize::from(found.len() == 1);
         }
         for side in stem_sides(table) {
             let place = [StemSide::A, StemSide::B, StemSide::Neither].iter().position(|&other| other == side);

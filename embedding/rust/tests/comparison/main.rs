@@ -11,6 +11,7 @@ use calls::Case;
 use counts::Counts;
 use reference::argument::argument;
 use reference::generate::damage::damaged_file;
+use reference::generate::listing::damaged_listing;
 use reference::generate::outside::{driven, table_with_steps};
 use reference::generate::prng::Prng;
 use reference::generate::tables::largest_table;
@@ -24,6 +25,8 @@ const S_STEPS: &[u8] = include_bytes!("../../../../samples/s/steps");
 const ROUTES_OF_S: [usize; 6] = [38, 39, 40, 43, 44, 45];
 /// Ways of damaging a file.
 const AIMS: u64 = 21;
+/// How many files of a table are damaged in its boxes and ends of segments alone.
+const LISTINGS: usize = 2;
 
 fn main() {
     let (seed, tables) = (argument(1, 1), argument(2, 200));
@@ -41,7 +44,8 @@ fn main() {
     }
 }
 
-/// A generated table with a list of steps, the file as its own steps, and files damaged from it.
+/// A generated table with a list of steps, the file as its own steps, and files damaged from it, the last of them in its boxes
+/// and ends of segments alone.
 fn table(seed: u64, case: u64, counts: &mut Counts) {
     let mut rng = Prng::for_case(seed, case);
     let (table, mut steps) = table_with_steps(&mut rng, case);
@@ -51,6 +55,11 @@ fn table(seed: u64, case: u64, counts: &mut Counts) {
     steps.truncate(rng.below(40));
     for aim in [case % AIMS, (case + 7) % AIMS, (case + 14) % AIMS] {
         let damaged = damaged_file(&mut rng, &table, aim as u8);
+        Case::new(&damaged, &steps).compare(&mut rng, counts);
+    }
+    let mut rng = Prng::for_case(seed + 3, case);
+    for _ in 0..LISTINGS {
+        let damaged = file_bytes(&damaged_listing(&mut rng, &table));
         Case::new(&damaged, &steps).compare(&mut rng, counts);
     }
 }

@@ -1,6 +1,7 @@
 //! A corpus under way: its records, the text for them, and what has been counted.
 
 use reference::counts::Counts;
+use reference::generate::listing::ListingCounts;
 use reference::generate::lock_asked::LockCounts;
 use reference::generate::made_up::{Aim, AIMS};
 use reference::line::{start_line, Line};
@@ -53,6 +54,8 @@ pub struct Corpus {
     pub made_up_locks: LockCounts,
     /// How many made-up records have each aim.
     pub aims: Vec<usize>,
+    /// What code 8 finds in the files that are made for it.
+    pub listings: ListingCounts,
     steps: Vec<u8>,
 }
 

@@ -1,14 +1,22 @@
-//! The files of the corpus: table S and its changes, generated tables, damaged ones, and some by hand.
+//! The files of the corpus: table S and its changes, generated tables, damaged ones, and some by hand; tables
+//! in which code 8 finds one thing alone.
 
 use crate::corpus::{Corpus, FEWEST, S, SEED};
 use reference::counts::FILE_CODES;
 use reference::generate::damage::damaged_file;
 use reference::generate::draft::Style;
+use reference::generate::listing::{damaged_listing, found_in, FINDINGS};
 use reference::generate::prng::Prng;
 use reference::generate::tables::{accepted_table, largest_table, table_of};
 use reference::refusal::code_of;
 use reference::table::*;
 use reference::table_read::read_table;
+use reference::table_write::file_bytes;
+
+/// How many files have each finding of code 8 alone, of at most so many bytes, and how many tables are tried for them.
+pub const FEWEST_FOUND: usize = 24;
+const MOST_LISTING: usize = 90;
+const LISTINGS_TRIED: u64 = 5_000;
 
 /// Table S, each of its prefixes and each change of one byte.
 pub fn table_s(corpus: &mut Corpus) {
@@ -100,6 +108,25 @@ fn modest_table(case: u64) -> Table {
         let table = accepted_table(&mut rng);
         if table.trains.len() > 1 && (case % 6 == 0 || table.file_length() <= 150) {
             return table;
+        }
+    }
+}
+
+/// Small tables in which code 8 finds one thing alone, as many for each thing that it can find.
+pub fn listings(corpus: &mut Corpus) {
+    let mut made = [0; FINDINGS.len()];
+    for case in 0..LISTINGS_TRIED {
+        let mut rng = Prng::for_case(SEED + 4, case);
+        let whole = accepted_table(&mut rng);
+        let table = damaged_listing(&mut rng, &whole);
+        let fits = table.file_length() <= MOST_LISTING && !corpus.files.contains(&file_bytes(&table));
+        match found_in(&table)[..] {
+            [finding] if fits && made[finding as usize] < FEWEST_FOUND => {
+                made[finding as usize] += 1;
+                corpus.listings.add(&table);
+                corpus.table(&table);
+            }
+            _ => {}
         }
     }
 }

@@ -1,7 +1,7 @@
 //! Makes the corpus of the program `cases` and the text that it must write, with this
 //! implementation alone. The argument is a directory: the corpus goes to its file `stdin`, the text
 //! to its file `stdout`, and what they hold to standard error. It begins with the smallest example of
-//! each code 1 to 29.
+//! each code 1 to 29 and ends with files in which code 8 finds one thing alone.
 //!
 //! The corpus is a list of records. Numbers of two bytes have the high byte first.
 //!
@@ -36,6 +36,7 @@ mod files;
 mod lines;
 
 use corpus::{Corpus, FEWEST};
+use files::FEWEST_FOUND;
 use lines::FEWEST_AIMED;
 use reference::counts::{file_codes, list_codes, step_codes, Counts, FILE_CODES};
 use reference::generate::made_up::AIMS;
@@ -65,6 +66,7 @@ fn make() -> (Corpus, Counts) {
     lines::paper_lists(&mut corpus);
     lines::generated_lists(&mut corpus);
     lines::made_up_records(&mut corpus);
+    files::listings(&mut corpus);
     (corpus, aimed)
 }
 
@@ -81,6 +83,7 @@ fn fault(corpus: &Corpus, aimed: &Counts) -> Option<String> {
         None if corpus.list_codes[23] > 0 => Some("a list of steps has code 23".into()),
         None if corpus.made_up_locks.fewest() == 0 => Some("boxes do not answer a lock in all ways".into()),
         None if unaimed.is_some() => Some(format!("{:?} has too few made-up records", AIMS[unaimed?])),
+        None if corpus.listings.fewest() < FEWEST_FOUND => Some("code 8 finds something too seldom".into()),
         None if corpus.counts[0] == 0 => Some("no file is accepted".into()),
         None if corpus.files.iter().any(|f| f.len() > MOST_FILE) => Some("a file is too long".into()),
         None if corpus.records.len() > MOST_CORPUS => Some("the corpus is too long".into()),
@@ -118,6 +121,7 @@ fn print_counts(corpus: &Corpus, aimed: &Counts) {
         eprintln!("{code:4} {:6} {:6}", corpus.list_codes[code], corpus.made_up_codes[code]);
     }
     eprint!("lists: {}made-up records: {}", corpus.list_locks, corpus.made_up_locks);
+    eprint!("files for code 8: {}", corpus.listings);
     eprintln!("made-up records by what they break");
     for (aim, count) in AIMS.iter().zip(&corpus.aims) {
         eprintln!("{:15} {count:6}", format!("{aim:?}"));

@@ -19,10 +19,10 @@ fn stem_side(number: u8, s: u8, a: &[u8; 256], b: &[u8; 256]) -> StemSide
     if a[s as usize] == number {
         return StemSide::AEnd;
     }
-    if b[s as usize] == number {
-        return StemSide::BEnd;
+    if b[s as usize] != number {
+        return StemSide::Neither;
     }
-    StemSide::Neither
+    StemSide::BEnd
 }
 
 // The stem sides of boxes 1 .. m, each worked out once.
@@ -40,8 +40,8 @@ pub(crate) fn stem_sides(
     while number < m {
         let i = number as usize;
         number += 1;
-        let p = plans[i];
-        let side = stem_side(number, p.stem, a, b);
+        let plan = plans[i];
+        let side = stem_side(number, plan.stem, a, b);
         sides[i] = side;
     }
     sides

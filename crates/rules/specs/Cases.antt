@@ -4,13 +4,16 @@
 use Prim.Native.Nat.{ℕ, _+_, _-_, _*_}
 use mathlib.Core.List.{List, [], _∷_, _++_}
 use lib.ListN.{take, set}
+use Rattle.rules.specs.declared.StemSide.{StemSide}
+use Rattle.rules.specs.declared.StemSide.the-variants.{Neither, AEnd, BEnd}
 use Rattle.rules.specs.declared.Table.{Table}
 use Rattle.rules.specs.declared.Refusal.{Refusal}
 use Rattle.rules.specs.declared.SwitchBox.{SwitchBox}
 use Rattle.rules.specs.declared.Train.{Train}
 use Rattle.rules.specs.declared.Line.{Line}
-use Rattle.rules.specs.Rows.{joinOf}
-use Rattle.rules.specs.Track.{planAt, joins}
+use Rattle.rules.specs.Rows.{listOf, joinOf}
+use Rattle.rules.specs.Track.{planAt, trackOf, joins}
+use Rattle.rules.specs.StemSide.{stemSideAt}
 use Rattle.rules.specs.File.{fileRefusal, decode, encode, routeRefusal, routePart, routeFrom, writeRefusal, written}
 use Rattle.rules.specs.Line.{startLine, around, boxAt, trainAt, messageState, messageKind, messageBox, messageCode}
 use Rattle.rules.specs.Steps.{Step}
@@ -25,6 +28,8 @@ use Rattle.rules.specs.Printout.{bytesOf, decimal, mostSteps, takenOf, p
 pub data Question : Type 0 where
   -- The file's code, with train and place.
   codeOf : List ℕ → Question
+  -- The stem sides of the boxes of the file's table, whatever its code: 1 the A end, 2 the B end, 0 neither.
+  sidesOf : List ℕ → Question
   -- Whether a position of a box of the file's table joins two segments.
   joinedAt : List ℕ → ℕ → ℕ → ℕ → ℕ → Question
   -- The file written from its table record.
@@ -101,8 +106,16 @@ lineNumbers l =
 unfoldable pub refusalNumbers : Refusal → List ℕ
 refusalNumbers r = r .code ∷ r .train ∷ r .place ∷ []
 
+unfoldable pub sideNumber : StemSide → ℕ
+sideNumber Neither = 0
+sideNumber AEnd = 1
+sideNumber BEnd = 2
+
 unfoldable pub found : Question → List ℕ
 found (codeOf bytes) = refusalNumbers (fileRefusal bytes)
+found (sidesOf bytes) =
+    let t = decode bytes in
+    listOf (t .m) (λ b. sideNumber (stemSideAt (trackOf t) (t .boxes) b))
 found (joinedAt bytes b x s z) = bit (joins (planAt (decode bytes) b) x s z) ∷ []
 found (rewritten bytes) = encode (decode bytes)
 found (answersTo bytes steps) = answersOf (history (decode bytes) steps)

@@ -6,7 +6,7 @@ use Rattle.rules.specs.Rows.{joinOf}
 use Rattle.rules.specs.File.{decode}
 use Rattle.rules.specs.Line.{emptyLine}
 use Rattle.rules.specs.Printout.{bytesOf}
-use Rattle.rules.specs.Cases.{codeOf, rewritten, trainAfter, boxAfter, printed, writtenTo, routeOf, Case, _gives_, track, tableS, parallelRoute, oneStart, ring, longLine}
+use Rattle.rules.specs.Cases.{codeOf, sidesOf, rewritten, trainAfter, boxAfter, printed, writtenTo, routeOf, Case, _gives_, track, tableS, parallelRoute, oneStart, ring, longLine}
 
 -- Two segments joined by a link, and a train with the route 1, 2.
 unfoldable pub linked : List ℕ
@@ -31,6 +31,13 @@ extraBranch =
     ∷ 1 ∷ 2 ∷ 2 ∷ 3 ∷ 4 ∷ 5
     ∷ 0 ∷ 1 ∷ 0 ∷ 0 ∷ 0 ∷ 2 ∷ 1 ∷ 2 ∷ 3 ∷ 1 ∷ 0 ∷ 2 ∷ 0 ∷ 0 ∷ 0
     ∷ 0 ∷ 3 ∷ 0 ∷ 0 ∷ 0 ∷ 0 ∷ 3 ∷ 0 ∷ 0 ∷ 0 ∷ []
+
+-- One segment between two borders, and a third border at which nothing ends.
+unfoldable pub strayBorder : List ℕ
+strayBorder =
+    0x4E ∷ 0x45 ∷ 0x54 ∷ 0 ∷ 1 ∷ 1 ∷ 3 ∷ 0
+    ∷ 1 ∷ 2
+    ∷ 0 ∷ 1 ∷ 0 ∷ 0 ∷ 0 ∷ 0 ∷ 1 ∷ 0 ∷ 0 ∷ 0 ∷ 0 ∷ 1 ∷ 0 ∷ 0 ∷ 0 ∷ []
 
 -- One train whose route has so many segments, all of them 1.
 unfoldable pub longRoute : ℕ → List ℕ
@@ -106,6 +113,12 @@ networkCases =
     ∷ changed 17 4 8
     ∷ codeOf (set (set tableS 16 1) 18 4) gives (8 ∷ 0 ∷ 0 ∷ [])
     ∷ codeOf extraBranch gives (8 ∷ 0 ∷ 0 ∷ [])
+    -- Stem sides: of table S; with segment 4, which has no end there, for the stem of box 2: 8; and of a border too many, 8 by its side alone.
+    ∷ sidesOf tableS gives (1 ∷ 2 ∷ 1 ∷ 2 ∷ [])
+    ∷ sidesOf (set tableS 22 4) gives (1 ∷ 0 ∷ 1 ∷ 2 ∷ [])
+    ∷ changed 22 4 8
+    ∷ sidesOf strayBorder gives (1 ∷ 2 ∷ 0 ∷ [])
+    ∷ codeOf strayBorder gives (8 ∷ 0 ∷ 0 ∷ [])
     -- 8: the stem on the side of its right branch (by A ends, by B ends), of its left, of a link's left, and listed again as left.
     ∷ codeOf (set (set tableS 22 2) 23 1) gives (8 ∷ 0 ∷ 0 ∷ [])
     ∷ codeOf (set (set tableS 27 2) 28 4) gives (8 ∷ 0 ∷ 0 ∷ [])

@@ -1,6 +1,6 @@
 -- What the conditions on a network say of the record at an index, in the words of the functions that test them.
-use Prim.Native.Nat.{ℕ, _+_, _-_, _≤_, _<_}
-use mathlib.Core.Path.{_≡_, refl, sym, _∙_, ap}
+use Prim.Native.Nat.{ℕ, _+_, _≤_, _<_}
+use mathlib.Core.Path.{_≡_, sym, _∙_, ap}
 use mathlib.Core.Bool.{Bool, true, false, cond, not, _&&_, _||_, false≢true}
 use mathlib.Core.List.{List}
 use native.Mathlib.Numerals.{add-one}
@@ -12,7 +12,7 @@ use lib.ListN.{length, getD}
 use Rattle.rules.specs.declared.Segment.{Segment}
 use Rattle.rules.specs.declared.BoxPlan.{BoxPlan}
 use Rattle.rules.specs.Rows.{anyOf, outside, nth}
-use Rattle.rules.proofs.Tests.{tests, answered, cond-same}
+use Rattle.rules.proofs.Tests.{tests, answered, or-none, cond-same}
 use Rattle.rules.proofs.Rows.{none-found, nth-at, nth-past}
 use Rattle.rules.specs.Track.{noSegment, noBoxPlan, trackBy, farBox, isPoint, positionFits}
 use Rattle.rules.specs.Network.{placeFault, branchesFault, planFault, planFaultAt}
@@ -22,11 +22,6 @@ module _ (i : ℕ) (r v : Bool) where
   pub plan-answer : (n : ℕ) (plans : List BoxPlan) → r ≡ planFault n (getD plans i noBoxPlan) → r ≡ v → planFaultAt n plans (i + 1) ≡ v
   unfolding planFaultAt
   plan-answer n plans e f = rw nth-at (answered _ _ _ e f)
-
--- A test that is never passed adds nothing.
-or-none : (x : Bool) → (x || false) ≡ x
-or-none true = refl
-or-none false = refl
 
 -- What is at fault with a plan of kind k, by the tests of its parts: the stem, a needed and an unused left, a needed and an unused right,
 -- equal branches, the position.
@@ -44,26 +39,30 @@ module _ (k : ℕ) (stem left noLeft right noRight same position : Bool) where
   kind-2 : k ≡ 2 → ByKind (stem || left || right || same || position)
   kind-2 e = rw e
 
--- Code 7 at a border, at a link and at a point, and where the kind is above 2.
-module _ (n : ℕ) (p : BoxPlan) where
+-- Code 7 at a border, at a link and at a point, and where the kind is above 2; r is what a function answered.
+module _ (n : ℕ) (p : BoxPlan) (r : Bool) where
   pub plan-border : p .kind ≡ 0
-      → planFault n p ≡ (outside n (p .stem) || not (eqb (p .left) 0) || not (eqb (p .right) 0) || not (positionFits p (p .position)))
+      → r ≡ (outside n (p .stem) || not (eqb (p .left) 0) || not (eqb (p .right) 0) || not (positionFits p (p .position)))
+      → r ≡ planFault n p
   unfolding planFault placeFault branchesFault isPoint
-  plan-border e = kind-0 (p .kind) _ _ _ _ _ _ _ e
+  plan-border e a = a ∙ sym (kind-0 (p .kind) _ _ _ _ _ _ _ e)
 
   pub plan-link : p .kind ≡ 1
-      → planFault n p ≡ (outside n (p .stem) || outside n (p .left) || not (eqb (p .right) 0) || not (positionFits p (p .position)))
+      → r ≡ (outside n (p .stem) || outside n (p .left) || not (eqb (p .right) 0) || not (positionFits p (p .position)))
+      → r ≡ planFault n p
   unfolding planFault placeFault branchesFault isPoint
-  plan-link e = kind-1 (p .kind) _ _ _ _ _ _ _ e
+  plan-link e a = a ∙ sym (kind-1 (p .kind) _ _ _ _ _ _ _ e)
 
   pub plan-point : p .kind ≡ 2
-      → planFault n p ≡ (outside n (p .stem) || outside n (p .left) || outside n (p .right) || eqb (p .left) (p .right) || not (positionFits p (p .position)))
+      → r
+      ≡ (outside n (p .stem) || outside n (p .left) || outside n (p .right) || eqb (p .left) (p .right) || not (positionFits p (p .position)))
+      → r ≡ planFault n p
   unfolding planFault placeFault branchesFault isPoint
-  plan-point e = kind-2 (p .kind) _ _ _ _ _ _ _ e
+  plan-point e a = a ∙ sym (kind-2 (p .kind) _ _ _ _ _ _ _ e)
 
-  pub plan-other : 2 < p .kind → true ≡ planFault n p
-  unfolding planFault
-  plan-other h = search tests depth 8
+pub plan-other : (n : ℕ) (p : BoxPlan) → 2 < p .kind → true ≡ planFault n p
+unfolding planFault
+plan-other n p h = search tests depth 8
 
 -- More boxes than there are places: box 97 has no plan, and reads as one with segment 0 at its stem, which is at fault. So there
 -- are no more where no plan is at fault.

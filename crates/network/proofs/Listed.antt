@@ -1,8 +1,8 @@
--- Where codes 6 and 7 find nothing, and 8 nothing at the boxes, a box lists only segments with an end there, and no end of a segment twice.
--- So each of the 2 n ends is listed by its box exactly where the boxes have 2 n places in all.
+-- Where codes 6 and 7 find nothing, and 8 nothing at the boxes, a box lists only segments with an end there, and no end twice. So each
+-- of the 2 n ends is listed by its box exactly where the boxes have 2 n places in all.
 use Prim.Native.Nat.{ℕ, zero, suc, _+_, _*_, _≤_, _<_}
-use mathlib.Core.Path.{_≡_, refl, sym, _∙_, ap}
-use mathlib.Core.Logic.{_≢_, inl}
+use mathlib.Core.Path.{_≡_, refl, sym, _∙_}
+use mathlib.Core.Logic.{_≢_}
 use mathlib.Core.Bool.{Bool, true, false, not, _||_, false≢true}
 use mathlib.Core.List.{List}
 use native.Mathlib.Decide.{ℕ-discrete, decLt}
@@ -17,8 +17,9 @@ use Rattle.rules.specs.Network.{endsFault, lists, planFaultAt, boxFaultAt, unli
 use Rattle.rules.specs.Printout.{bit}
 use Rattle.rules.proofs.Tests.{not-passed, or-false-left, or-false-right}
 use Rattle.rules.proofs.Rows.{any-false-at}
-use Rattle.rules.proofs.Accepted.{BoxOf, Ends, Planned, Sides, Branch, onLeft, onRight, lists-iff, ends-iff, plan-iff, sides-iff}
-use Rattle.network.specs.Places.{sumOf, placesOf}
+use Rattle.rules.proofs.Accepted.{BoxOf, Ends, Planned, Sides, onLeft, onRight, ends-iff, plan-iff, sides-iff}
+use Rattle.rules.proofs.Boxes.{one-side, stem-no-branch}
+use Rattle.network.specs.Places.{sumOf, placeCount}
 use Rattle.network.proofs.Sums.{sum-same, sum-none, sum-one, sum-two, sum-add, sum-swap}
 
 -- How many of two tests are passed.
@@ -71,7 +72,8 @@ module _ (a b : ℕ → Bool) where
   some-missing zero e = absurd (false≢true e)
   some-missing (suc n) e = by (anyOf n missing) refl (some-missing n)
     where
-      by : (v : Bool) → anyOf n missing ≡ v → (anyOf n missing ≡ true → sumOf n passed < 2 * n) → sumOf n passed + passed (suc n) < 2 * suc n
+      by : (v : Bool) → anyOf n missing ≡ v → (anyOf n missing ≡ true → sumOf n passed < 2 * n)
+          → sumOf n passed + passed (suc n) < 2 * suc n
       by true f earlier =
           let rest = earlier f in
           let last = at-most (a (suc n)) (b (suc n)) in
@@ -111,26 +113,14 @@ unfolding bit
 uncounted n x e = sum-none (λ s. bit (eqb x s)) n (λ i l k. rw (ne-eqb x i (omega arith)))
 
 module _ (n : ℕ) (track : Track) (b : ℕ) (p : BoxPlan) (planned : Planned n p) (sides : Sides track b p) where
-  -- No two places of a box have the same segment.
-  branch-differs : (y s : ℕ) → Branch p y s → s ≢ 0 → p .stem ≢ s
-  branch-differs y s branch used same =
-      let end = sides .ends (p .stem) (lists-iff p (p .stem) .1 (inl refl)) (omega (arith, planned .stem .low)) in
-      sides .opposite y s branch used (end .direction) (end .there) (sym (ap (λ (x : ℕ). nearBox track (end .direction) x) same) ∙ end .there)
-
-  branches-differ : p .right ≢ 0 → p .left ≢ p .right
-  branches-differ used =
-      elim (ℕ-discrete (p .kind) 2) [ yes e ↦ planned .differ e | no e ↦ absurd (used (planned .right .unused e)) ]
-
-  -- So a segment that it lists stands at one of them.
-  stands-once : (s : ℕ) → 1 ≤ s → bit (lists p s) ≡ bit (eqb (p .stem) s) + bit (eqb (p .left) s) + bit (eqb (p .right) s)
+  -- A segment that it lists stands at one place of it.
+  stands-once : (s : ℕ) → SegmentOf n s → bit (lists p s) ≡ bit (eqb (p .stem) s) + bit (eqb (p .left) s) + bit (eqb (p .right) s)
   unfolding lists
   stands-once s h =
-      let no-two : (x y : ℕ) → (y ≢ 0 → x ≢ y) → eqb x s ≡ true → eqb y s ≡ true → ⊥ =
-      λ x y differ e f. let g = eqb-true y s f in differ (omega arith) (eqb-true x s e ∙ sym g) in
       one-of _ _ _
-      (no-two _ _ (branch-differs 1 (p .left) (onLeft refl refl)))
-      (no-two _ _ (branch-differs 2 (p .right) (onRight refl refl)))
-      (no-two _ _ branches-differ)
+      (λ e f. stem-no-branch planned sides (onLeft refl (eqb-true _ _ f)) (eqb-true _ _ e))
+      (λ e f. stem-no-branch planned sides (onRight refl (eqb-true _ _ f)) (eqb-true _ _ e))
+      (λ e f. one-side planned h (eqb-true _ _ e) (eqb-true _ _ f))
 
   -- It lists as many segments as its kind has places.
   box-count : sumOf n (λ s. bit (lists p s)) ≡ p .kind + 1
@@ -138,7 +128,9 @@ module _ (n : ℕ) (track : Track) (b : ℕ) (p : BoxPlan) (planned : Planned n 
       let stem : ℕ → ℕ = λ s. bit (eqb (p .stem) s) in
       let left : ℕ → ℕ = λ s. bit (eqb (p .left) s) in
       let right : ℕ → ℕ = λ s. bit (eqb (p .right) s) in
-      let all = sum-same (λ s. bit (lists p s)) (λ s. stem s + left s + right s) n (λ s l h. stands-once s l) in
+      let all =
+      sum-same (λ s. bit (lists p s)) (λ s. stem s + left s + right s) n
+      (λ s l h. stands-once s (record { low = l; high = h })) in
       let three = sum-add (λ s. stem s + left s) right n in
       let two = sum-add stem left n in
       let one = counted n (p .stem) (planned .stem) in
@@ -174,7 +166,8 @@ module _ (n m : ℕ) (track : Track) (plans : List BoxPlan)
       at (suc d) e = c (sym (rw eqb·suc-zero at e))
 
   -- The boxes that list a segment are those of its two ends, or one of them, or none.
-  segment-count : (s : ℕ) → SegmentOf n s → sumOf m (λ b. bit (listing b s)) ≡ bit (listing (track .endA s) s) + bit (listing (track .endB s) s)
+  segment-count : (s : ℕ) → SegmentOf n s
+      → sumOf m (λ b. bit (listing b s)) ≡ bit (listing (track .endA s) s) + bit (listing (track .endB s) s)
   unfolding bit nearBox farBox
   segment-count s h =
       let a = ends s h .box 0 in
@@ -182,17 +175,18 @@ module _ (n m : ℕ) (track : Track) (plans : List BoxPlan)
       sum-two (λ b. bit (listing b s)) m (track .endA s) (track .endB s) (a .low) (a .high) (c .low) (c .high) (ends s h .differ 0)
       (λ b l k x y. rw (no-other b s (record { low = l; high = k }) (omega (arith, h .low)) x y))
 
-  places-listed : placesOf m plans ≡ sumOf n (λ s. bit (listing (track .endA s) s) + bit (listing (track .endB s) s))
-  unfolding placesOf
+  places-listed : placeCount m plans ≡ sumOf n (λ s. bit (listing (track .endA s) s) + bit (listing (track .endB s) s))
+  unfolding placeCount
   places-listed =
-      sum-same _ _ m (λ b l h. let k : BoxOf m b = record { low = l; high = h } in sym (box-count n track b (nth plans b noBoxPlan) (planned b k) (sides b k)))
+      sum-same _ _ m
+      (λ b l h. let k : BoxOf m b = record { low = l; high = h } in sym (box-count n track b _ (planned b k) (sides b k)))
       ∙ sum-swap (λ b s. bit (listing b s)) m n
       ∙ sum-same _ _ n (λ s l h. segment-count s (record { low = l; high = h }))
 
 -- Code 8 at the segments, by how many places the boxes have.
 pub unlisted-by-places : (n m : ℕ) (track : Track) (plans : List BoxPlan)
     → anyOf n (endsFault m track) ≡ false → anyOf m (planFaultAt n plans) ≡ false → anyOf m (boxFaultAt track plans) ≡ false
-    → not (eqb (placesOf m plans) (2 * n)) ≡ anyOf n (unlistedFault track plans)
+    → not (eqb (placeCount m plans) (2 * n)) ≡ anyOf n (unlistedFault track plans)
 unfolding planFaultAt boxFaultAt unlistedFault
 unlisted-by-places n m track plans six seven eight =
     rw

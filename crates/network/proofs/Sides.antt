@@ -1,12 +1,13 @@
 -- Code 8 at the boxes by their stem sides: where codes 6 and 7 find nothing, it is found by `sidedFault` exactly where `boxFault` has it.
 use Prim.Native.Nat.{ℕ, _+_, _≤_}
 use mathlib.Core.Path.{_≡_, refl, sym, _∙_}
+use mathlib.Core.Logic.{_≢_}
 use mathlib.Core.Bool.{Bool, true, false, not, cond, _&&_, _||_}
 use mathlib.Core.List.{List}
 use native.Mathlib.Omega.{arith}
 use lib.Dec.{eqb}
 use lib.ListN.{getD}
-use borrow.Author.Tests.{ne-eqb, eqb-true, eqb-false}
+use borrow.Author.Tests.{ne-eqb, eqb-false}
 use Rattle.rules.specs.declared.BoxPlan.{BoxPlan}
 use Rattle.rules.specs.declared.StemSide.{StemSide}
 use Rattle.rules.specs.declared.StemSide.the-variants.{AEnd, BEnd, Neither}
@@ -15,6 +16,7 @@ use Rattle.rules.specs.Track.{Track, noBoxPlan}
 use Rattle.rules.specs.Network.{endsFault, placeFault, planFault, hasEndA, hasEndB, listedFault, sideFault, boxFault, planFaultAt, boxFaultAt}
 use Rattle.rules.specs.StemSide.{isSide, stemSide, stemSideAt}
 use Rattle.rules.proofs.Tests.{facts, answered, outside-false-iff}
+use Rattle.rules.proofs.StemSides.{one-end}
 use Rattle.rules.proofs.Rows.{any-false-at, any-same, nth-at, filled-record}
 use Rattle.network.specs.Sided.{branchAway, someBranchAway, sidedFault, sidedFaultAt}
 
@@ -73,12 +75,10 @@ place-used n true s e h = outside-false-iff n s .0 e
 place-used n false s e h = absurd (eqb-false s 0 h (simp facts at e))
 
 module _ (n m : ℕ) (track : Track) (none : anyOf n (endsFault m track) ≡ false) where
-  -- Code 6 finds nothing: a segment does not have both ends at one box.
-  one-end : (b s : ℕ) → (1 ≤ s) × (s ≤ n) → hasEndA track s b ≡ true → hasEndB track s b ≡ true → ⊥
-  unfolding endsFault hasEndA hasEndB
-  one-end b s h e f =
-      let (_, differ) = simp facts at (any-false-at (endsFault m track) n s none (h .0) (h .1)) in
-      differ (eqb-true _ _ e ∙ sym (eqb-true _ _ f))
+  -- Code 6 finds nothing: the ends of a segment are at two boxes.
+  apart : (s : ℕ) → (1 ≤ s) × (s ≤ n) → track .endA s ≢ track .endB s
+  unfolding endsFault
+  apart s h = let (_, differ) = simp facts at (any-false-at (endsFault m track) n s none (h .0) (h .1)) in differ
 
   -- A box by its stem side.
   pub box-by-side : (b : ℕ) (p : BoxPlan) → planFault n p ≡ false → sidedFault track b p (stemSide track b (p .stem)) ≡ boxFault track b p
@@ -88,8 +88,13 @@ module _ (n m : ℕ) (track : Track) (none : anyOf n (endsFault m track) ≡ fal
       let used = outside-false-iff n (p .stem) .0 stem in
       rw (ne-eqb (p .stem) 0 (omega arith))
       (sym
-      (by-tests (sidedFault track b p) _ _ _ _ _ _ _ _ (one-end b _ used)
-      (λ z. one-end b _ (place-used n _ _ left z)) (λ z. one-end b _ (place-used n _ _ right z)) refl refl refl))
+      (by-tests (sidedFault track b p) _ _ _ _ _ _ _ _
+      (one-end track b _ (apart _ used))
+      (λ z. one-end track b _ (apart _ (place-used n _ _ left z)))
+      (λ z. one-end track b _ (apart _ (place-used n _ _ right z)))
+      refl
+      refl
+      refl))
 
   -- All boxes by the sides that were kept.
   pub boxes-by-sides : (plans : List BoxPlan) (sides : List StemSide) → anyOf m (planFaultAt n plans) ≡ false → m ≤ 96

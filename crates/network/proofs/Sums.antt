@@ -10,15 +10,16 @@ use lib.ListN.{getD}
 use Rattle.rules.specs.declared.BoxPlan.{BoxPlan}
 use Rattle.rules.specs.Rows.{nth}
 use Rattle.rules.specs.Track.{noBoxPlan}
-use Rattle.network.specs.Places.{sumOf, placesOf}
+use Rattle.network.specs.Places.{sumOf, placeCount}
 
 -- The places of no box, and of the box at index i too.
-pub places-none : (plans : List BoxPlan) → placesOf 0 plans ≡ 0
-unfolding placesOf sumOf
+pub places-none : (plans : List BoxPlan) → placeCount 0 plans ≡ 0
+unfolding placeCount sumOf
 places-none plans = refl
 
-pub places-more : (plans : List BoxPlan) (i c : ℕ) → c ≡ placesOf i plans → c + (getD plans i noBoxPlan .kind + 1) ≡ placesOf (i + 1) plans
-unfolding placesOf sumOf nth
+pub places-more : (plans : List BoxPlan) (i c : ℕ) → c ≡ placeCount i plans
+    → c + (getD plans i noBoxPlan .kind + 1) ≡ placeCount (i + 1) plans
+unfolding placeCount sumOf nth
 places-more plans i c e = rw (add-one i, e)
 
 -- Summands that are the same.

@@ -10,7 +10,7 @@ ghost use Rattle.rules.specs.Rows.{anyOf, listOf, filled};
 ghost use Rattle.rules.specs.Track.{trackIn};
 ghost use Rattle.rules.specs.StemSide.{stemSide, stemSideAt};
 ghost use Rattle.network.specs.Sided.{branchAway, someBranchAway, sidedFault, sidedFaultAt};
-ghost use Rattle.network.specs.Places.{placesOf};
+ghost use Rattle.network.specs.Places.{placeCount};
 
 // The stem side of the box with this number, whose stem is segment s.
 fn stem_side(number: u8, s: u8, a: &[u8; 256], b: &[u8; 256]) -> StemSide
@@ -101,10 +101,10 @@ pub(crate) fn some_listing_faulty(
     false
 }
 
-// How many segments boxes 1 .. m list: a border one, a link two, a point three.
+// How many places boxes 1 .. m have: a border one, a link two, a point three.
 fn places(m: u8, plans: [BoxPlan; 96]) -> u16
     requires { ⌜ m ≤ 96 ⌝ }
-    ensures { λ r. ⌜ r ≡ placesOf m plans ⌝ }
+    ensures { λ r. ⌜ r ≡ placeCount m plans ⌝ }
 {
     let last = m as usize;
     let mut count: u16 = 0;
@@ -117,11 +117,11 @@ fn places(m: u8, plans: [BoxPlan; 96]) -> u16
     count
 }
 
-// Code 8 at the segments, where it has found nothing at the boxes: the boxes list segments by ends that are there, and none twice. So
-// some end of the n segments is not listed by its box exactly where they do not list 2 n.
+// Code 8 at the segments, where 6 and 7 have found nothing, and 8 nothing at the boxes: each place of a box is one end that is there, and
+// no end has two. So some end of the n segments is not listed by its box exactly where the boxes do not have 2 n places.
 pub(crate) fn some_unlisted(n: u8, m: u8, plans: [BoxPlan; 96]) -> bool
     requires { ⌜ m ≤ 96 ⌝ }
-    ensures { λ r. ⌜ r ≡ not (eqb (placesOf m plans) (2 * n)) ⌝ }
+    ensures { λ r. ⌜ r ≡ not (eqb (placeCount m plans) (2 * n)) ⌝ }
 {
     places(m, plans) != 2 * (n as u16)
 }

@@ -4,13 +4,14 @@ use mathlib.Core.Path.{_≡_, refl, sym, _∙_}
 use mathlib.Core.Logic.{_≢_}
 use mathlib.Core.Bool.{Bool, true, false, false≢true}
 use mathlib.Core.List.{List}
-use native.Mathlib.Decide.{decLt}
+use native.Mathlib.Decide.{ℕ-discrete, decLt}
 use native.Mathlib.Omega.{arith}
 use borrow.Author.Tests.{eq-eqb, ne-eqb}
 use lib.Dec.{eqb, ltb}
-use lib.ListN.{length, getD, List·getD-eq-default}
-use Rattle.rules.proofs.Tests.{tests, answered, cond-same}
-use Rattle.rules.proofs.Rows.{none-found, nth-at, nth-past, route-before, route-first}
+use lib.ListN.{length, getD, set, replicate, length-set, length-replicate, List·getD-eq-default}
+use lib.Seq.{getD-set-same, getD-set-other}
+use Rattle.rules.proofs.Tests.{tests, answered, outside-false-iff, cond-same}
+use Rattle.rules.proofs.Rows.{any-none, any-skip, any-found, NoneYet, none-start, none-turn, none-found, none-done, nth-at, nth-past, replicate-at, route-before}
 use Rattle.rules.proofs.RouteFault.{NoneFound, found-start, found-turn, found-here, found-done, first-same, found-tells}
 use Rattle.rules.proofs.Refusals.{code-of, refused-nowhere, refused-there}
 use Rattle.rules.specs.declared.TrainPlan.{TrainPlan}
@@ -53,6 +54,16 @@ train-past routes (suc i) (suc p) e h =
     let none : getD routes (64 * i + p) 0 ≡ 0 = List·getD-eq-default routes 0 (omega arith) in
     rw none (sym (cond-same (ltb p 64) 0))
 
+pub train-outside : (routes : List ℕ) (i p : ℕ) → length routes ≡ 1024 → outside 16 i ≡ true → routeAt routes i p ≡ 0
+train-outside routes i p e h =
+    elim (ℕ-discrete i 0) [
+      | yes none ↦ sym (train-none routes i p none)
+      | no some ↦ elim (decLt 16 i) [
+        | yes past ↦ sym (train-past routes i p e past)
+        | no within ↦ absurd (false≢true (sym (outside-false-iff 16 i .1 (omega arith, omega arith)) ∙ h))
+      ]
+    ]
+
 -- The search along a route has found nothing at its first p places, and has the segment at the last of them in hand.
 pub record Searched (n : ℕ) (track : Track) (routes : List ℕ) (i d r before p : ℕ) : Type 0 where
   pub yet : NoneFound r (routePlaceFault n track routes i d) p
@@ -74,6 +85,12 @@ module _ (n : ℕ) (track : Track) (routes : List ℕ) (i d r : ℕ) where
     pub searched-here : code ≢ 0 → record { code = code; train = i; place = p + 1 } ≡ routeFault n track routes i d r
     unfolding routeFault
     searched-here z = place-is ∙ found-here r _ p (h .yet) l (λ y. z (code-of place-is ∙ y))
+
+  -- There is no segment at the next place.
+  pub searched-nothing : (before p : ℕ) → Searched n track routes i d r before p → p < r → routeAt routes i (p + 1) ≡ 0
+      → record { code = 11; train = i; place = p + 1 } ≡ routeFault n track routes i d r
+  unfolding placeRows first outside
+  searched-nothing before p h l e = searched-here before p 0 11 h l (sym e) refl (λ z. absurd (omega arith))
 
   pub searched-done : (before p : ℕ) (x : Refusal) → Searched n track routes i d r before p → r ≤ p → x ≡ withoutPlace 0 → x ≡ routeFault n track routes i d r
   unfolding routeFault
@@ -115,18 +132,51 @@ pub routes-done : (n : ℕ) (track : Track) (trains : List TrainPlan) (routes : 
 unfolding routesFault
 routes-done n track trains routes k i r yet l e = e ∙ found-done k _ i yet l
 
--- Code 12 at the trains with indices i and j.
-module _ (routes : List ℕ) (i j : ℕ) where
-  pub starts-same : getD routes (64 * i) 0 ≡ getD routes (64 * j) 0 → eqb (routeAt routes (i + 1) 1) (routeAt routes (j + 1) 1) ≡ true
-  starts-same e = rw (route-first routes i, route-first routes j) (eq-eqb _ _ e)
+-- Code 12: a search through k trains that has found nothing among the first i, and has marked the segments with which they begin.
+pub record Begun (routes : List ℕ) (k i : ℕ) (begun : List Bool) : Type 0 where
+  pub yet : NoneYet k (startFault routes) i
+  pub size : length begun ≡ 256
+  pub marked : (s : ℕ) → getD begun s false ≡ anyOf i (λ j. eqb s (routeAt routes j 1))
 
-  pub starts-differ : (getD routes (64 * i) 0 ≡ getD routes (64 * j) 0 → ⊥) → eqb (routeAt routes (i + 1) 1) (routeAt routes (j + 1) 1) ≡ false
-  starts-differ e = rw (route-first routes i, route-first routes j) (ne-eqb _ _ e)
+pub begun-start : (routes : List ℕ) (k : ℕ) → Begun routes k 0 (replicate 256 false)
+begun-start routes k =
+    record {
+      yet = none-start k _;
+      size = length-replicate 256 false;
+      marked = λ s. replicate-at 256 s false ∙ sym (any-none _);
+    }
 
--- Code 12 at the train with index i looks at the i trains before.
-pub start-before : (routes : List ℕ) (i : ℕ) (r : Bool) → r ≡ anyOf i (λ j. eqb (routeAt routes (i + 1) 1) (routeAt routes j 1)) → r ≡ startFault routes (i + 1)
-unfolding startFault
-start-before routes i r e = let h : i + 1 - 1 ≡ i = omega arith in rw h e
+-- The train with index i begins with segment x.
+module _ (routes : List ℕ) (k i x : ℕ) (begun : List Bool) (h : Begun routes k i begun) (l : i < k)
+    (first : x ≡ routeAt routes (i + 1) 1) where
+  -- It is marked exactly where code 12 has the train.
+  begun-here : getD begun x false ≡ startFault routes (i + 1)
+  unfolding startFault
+  begun-here =
+      let back : i + 1 - 1 ≡ i = omega arith in
+      rw (back, ← first) (h .marked x)
+
+  pub begun-found : getD begun x false ≡ true → true ≡ anyOf k (startFault routes)
+  begun-found e = none-found k _ i l (sym begun-here ∙ e)
+
+  pub begun-turn : x < 256 → getD begun x false ≡ false → Begun routes k (i + 1) (set begun x true)
+  begun-turn small e =
+      record {
+        yet = none-turn k _ i (h .yet) l (sym begun-here ∙ e);
+        size = length-set begun x true ∙ h .size;
+        marked =
+            λ s.
+            elim (ℕ-discrete s x) [
+              | yes z ↦
+                  rw z
+                  (getD-set-same begun x true false (rw (h .size) small)
+                  ∙ sym (any-found _ (i + 1) i (omega arith) (eq-eqb _ _ first)))
+              | no z ↦ getD-set-other begun x s true false z ∙ h .marked s ∙ sym (any-skip _ i (ne-eqb _ _ (λ y. z (y ∙ sym first))))
+            ];
+      }
+
+pub begun-done : (routes : List ℕ) (k i : ℕ) (begun : List Bool) → Begun routes k i begun → k ≤ i → false ≡ anyOf k (startFault routes)
+begun-done routes k i begun h l = none-done k _ i (h .yet) l
 
 -- Why a table with these trains is refused, by the tests that led there; x is what a function answered.
 module _ (n k : ℕ) (track : Track) (trains : List TrainPlan) (routes : List ℕ) (x : Refusal) where

@@ -2,7 +2,8 @@
 use rules::Refusal;
 use rules::TrainPlan;
 ghost use mathlib.Core.Path.{_≡_};
-ghost use Prim.Native.Nat.{_+_, _≤_};
+ghost use Prim.Native.Nat.{_+_, _≤_, min};
+ghost use lib.ListN.{length};
 ghost use Rattle.rules.specs.Rows.{first, anyOf};
 ghost use Rattle.rules.specs.Track.{routeAt, trackIn, follows};
 ghost use Rattle.rules.specs.Placing.{withoutPlace, routeShapeFault, placeRows, routeFault, startFault, shapeFaultAt, routesFault, placingRows, refusalBy};
@@ -93,28 +94,39 @@ fn place_code(place: u8, before: u8, s: u8, n: u8, near: &[u8; 256], far: &[u8; 
     0
 }
 
+// How many places a route of length r has.
+fn places(r: u8) -> u8
+    ensures { λ x. ⌜ x ≡ min r 64 ⌝ }
+{
+    if r < 64 { r } else { 64 }
+}
+
 // The first place at fault of a train's route of length r, with the near ends for A ends and the far ends for B ends.
-fn first_fault(
-    routes: &[u8; 1024],
-    train: u8,
-    r: u8,
-    n: u8,
-    near: &[u8; 256],
-    far: &[u8; 256],
-) -> Refusal
+fn first_fault(routes: &[u8], train: u8, r: u8, n: u8, near: &[u8; 256], far: &[u8; 256]) -> Refusal
+    requires { ⌜ (1 ≤ train) × (train ≤ 16) × (length (now routes) ≡ 1024) ⌝ }
     ensures { λ x. ⌜ x ≡ routeFault n (trackIn (now (near .entry)) (now (far .entry))) (now (routes .entry)) train 0 r ⌝ }
 {
+    let start = 64 * (train - 1) as usize;
+    let last = places(r);
     let mut before: u8 = 0;
     let mut passed: u8 = 0;
-    while passed < r {
+    while passed < last {
+        let s = routes[start + passed as usize];
         let place = passed + 1;
-        let s = segment_at(routes, train, place as usize);
         let code = place_code(place, before, s, n, near, far);
         if code != 0 {
             return Refusal { code, train, place };
         }
         before = s;
         passed = place;
+    }
+    // A longer route reads segment 0 at its place 65.
+    if r > 64 {
+        return Refusal {
+            code: 11,
+            train,
+            place: 65,
+        };
     }
     without_place(0)
 }
@@ -132,10 +144,23 @@ pub fn route_fault(
 ) -> Refusal
     ensures { λ x. ⌜ x ≡ routeFault n (trackIn (now (a .entry)) (now (b .entry))) (now (routes .entry)) train d r ⌝ }
 {
-    if d == 0 {
-        return first_fault(routes, train, r, n, a, b);
+    // As a slice, whose length the proof knows.
+    let all: &[u8] = routes;
+    if r == 0 {
+        return without_place(0);
     }
-    first_fault(routes, train, r, n, b, a)
+    // A train that there is not reads segment 0 at its first place.
+    if network::outside(16, train) {
+        return Refusal {
+            code: 11,
+            train,
+            place: 1,
+        };
+    }
+    if d == 0 {
+        return first_fault(all, train, r, n, a, b);
+    }
+    first_fault(all, train, r, n, b, a)
 }
 
 // Codes 11 and 28 in one search through the routes of all trains: the first place at fault.
@@ -164,34 +189,19 @@ fn routes_fault(
     without_place(0)
 }
 
-// Code 12 at the train with this index: a train before it begins with the same segment.
-fn start_shared(routes: &[u8; 1024], index: usize) -> bool
-    requires { ⌜ index + 1 ≤ 16 ⌝ }
-    ensures { λ r. ⌜ r ≡ startFault (now (routes .entry)) (index + 1) ⌝ }
-{
-    let first = routes[64 * index];
-    let mut j: usize = 0;
-    while j < index {
-        if first == routes[64 * j] {
-            return true;
-        }
-        j += 1;
-    }
-    false
-}
-
-// Code 12: two trains begin with one segment.
+// Code 12: two trains begin with one segment. The segments with which trains before begin are marked.
 fn some_start_shared(k: u8, routes: &[u8; 1024]) -> bool
-    requires { ⌜ k ≤ 16 ⌝ }
     ensures { λ r. ⌜ r ≡ anyOf k (startFault (now (routes .entry))) ⌝ }
 {
-    let last = k as usize;
-    let mut i: usize = 0;
-    while i < last {
-        if start_shared(routes, i) {
+    let mut begun = [false; 256];
+    let mut number: u8 = 0;
+    while number < k {
+        number += 1;
+        let first = segment_at(routes, number, 1) as usize;
+        if begun[first] {
             return true;
         }
-        i += 1;
+        begun[first] = true;
     }
     false
 }

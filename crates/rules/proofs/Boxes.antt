@@ -80,7 +80,7 @@ branch-kind {p} h hs (onRight f e) =
     elim (ℕ-discrete (p .kind) 2) [ yes k ↦ omega arith | no k ↦ let z = h .right .unused k in absurd (omega arith) ]
 
 -- A segment is not both the left and the right of a box, so one position leads to it.
-one-side : {n : ℕ} {p : BoxPlan} {s : ℕ} → Planned n p → SegmentOf n s → p .left ≡ s → p .right ≡ s → ⊥
+pub one-side : {n : ℕ} {p : BoxPlan} {s : ℕ} → Planned n p → SegmentOf n s → p .left ≡ s → p .right ≡ s → ⊥
 one-side h hs e f =
     let k = branch-kind {y = 2} h hs (onRight refl f) in
     h .differ (omega arith) (e ∙ sym f)

@@ -4,7 +4,7 @@ pub mod Tests
 pub mod Rows
 -- The test of code 9 says yes exactly where a loop exists.
 pub mod Loop
--- The stem side of a box is the one case that is so.
+-- The stem side of a box is the one case that is so, where the ends of its stem are at two boxes (code 6).
 pub mod StemSides
 -- Laws of refusals.
 pub mod Refusals

@@ -13,9 +13,9 @@ use lib.ListN.{length, getD, set, take, replicate, length-append, length-take, l
 use lib.Seq.{sets, take-all, length-take-le, getD-take, getD-append-add, ext-getD}
 use Rattle.rules.specs.Rows.{anyOf, nth, listFrom, listOf, joinFrom, joinOf, filled}
 use Rattle.rules.specs.Track.{routeAt}
-use Rattle.rules.proofs.Tests.{or-left, or-right, or-false, or-false-left, or-false-right}
+use Rattle.rules.proofs.Tests.{or-left, or-right, or-none, or-false, or-false-left, or-false-right}
 
--- A test over the first i records that finds nothing, one record at a time; and one that finds record i + 1.
+-- A test over the first i records that finds nothing, one record at a time; one that does not find record i + 1, and one that does.
 pub any-none : (f : ℕ → Bool) → anyOf 0 f ≡ false
 unfolding anyOf
 any-none f = refl
@@ -23,6 +23,10 @@ any-none f = refl
 pub any-more : (f : ℕ → Bool) (i : ℕ) → anyOf i f ≡ false → f (i + 1) ≡ false → anyOf (i + 1) f ≡ false
 unfolding anyOf
 any-more f i e h = rw add-one (or-false (anyOf i f) (f (suc i)) e (rw add-one at h))
+
+pub any-skip : (f : ℕ → Bool) (i : ℕ) → f (i + 1) ≡ false → anyOf (i + 1) f ≡ anyOf i f
+unfolding anyOf
+any-skip f i e = rw (add-one i, rw add-one at e) (or-none (anyOf i f))
 
 pub any-found : (f : ℕ → Bool) (n i : ℕ) → i < n → f (i + 1) ≡ true → anyOf n f ≡ true
 unfolding anyOf

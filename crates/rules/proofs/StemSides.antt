@@ -25,12 +25,12 @@ module _ (track : Track) (b s : ℕ) where
 
   module _ (apart : track .endA s ≢ track .endB s) where
     -- The two ends are not both at the box.
-    one-end : hasEndB track s b ≡ true → hasEndA track s b ≡ false
+    pub one-end : hasEndA track s b ≡ true → hasEndB track s b ≡ true → ⊥
     unfolding hasEndA hasEndB
-    one-end h = not-passed _ (λ e. apart (eqb-true _ _ e ∙ sym (eqb-true _ _ h)))
+    one-end e f = apart (eqb-true _ _ e ∙ sym (eqb-true _ _ f))
 
     pub side-only : (x : StemSide) → isSide track b s x ≡ true → x ≡ stemSide track b s
     unfolding isSide stemSide
     side-only AEnd h = search tests
-    side-only BEnd h = let e = one-end h in search tests depth 8
+    side-only BEnd h = let e = not-passed _ (λ a. one-end a h) in search tests depth 8
     side-only Neither h = let (e, f) = simp facts at h in search tests depth 8

@@ -113,8 +113,10 @@ networkCases =
     ∷ changed 17 4 8
     ∷ codeOf (set (set tableS 16 1) 18 4) gives (8 ∷ 0 ∷ 0 ∷ [])
     ∷ codeOf extraBranch gives (8 ∷ 0 ∷ 0 ∷ [])
-    -- Stem sides: of table S; with segment 4, which has no end there, for the stem of box 2: 8; and of a border too many, 8 by its side alone.
+    -- Stem sides: of table S; with segment 4, which has no end there, for the stem of box 1 and of box 2: 8; of a border at which nothing
+    -- ends, while each end is listed: 8.
     ∷ sidesOf tableS gives (1 ∷ 2 ∷ 1 ∷ 2 ∷ [])
+    ∷ sidesOf (set tableS 17 4) gives (0 ∷ 2 ∷ 1 ∷ 2 ∷ [])
     ∷ sidesOf (set tableS 22 4) gives (1 ∷ 0 ∷ 1 ∷ 2 ∷ [])
     ∷ changed 22 4 8
     ∷ sidesOf strayBorder gives (1 ∷ 2 ∷ 0 ∷ [])

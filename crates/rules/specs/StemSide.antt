@@ -1,5 +1,5 @@
 -- The stem side of a box (02, ticket 4): which end of its stem segment is at the box. It is worked out once for each box, after codes 6
--- and 7, and code 8 is decided by it; what code 8 asks (Network) does not speak of it.
+-- and 7, and code 8 at the boxes is decided by it; what code 8 asks (Network) does not speak of it.
 use Prim.Native.Nat.{ℕ}
 use mathlib.Core.Bool.{Bool, cond, not, _||_}
 use mathlib.Core.List.{List}

@@ -20,7 +20,7 @@ placing-refusal-spec =
     (λ c. search (refused-10, answered))
     (λ c κs. few c)
     (λ c. search (refused-found, answered))
-    (λ c κs. few (c .before .before .before))
+    (λ c κs. search needs)
     (λ c κs. search needs)
     (λ c. search (refused-12, answered))
     (λ c κs. search needs)

@@ -3,13 +3,13 @@ use Prim.Native.Nat.{_-_, _*_, _≤_}
 use mathlib.Core.Path.{_≡_, sym}
 use native.Mathlib.Omega.{arith}
 use borrow.Author.Needs.{needs}
-use Rattle.network.specs.Places.{placesOf}
+use Rattle.network.specs.Places.{placeCount}
 use Rattle.network.proofs.Sums.{places-none, places-more}
 use Rattle.network.proofs.listing.places.Statement.{statement}
 use Rattle.network.proofs.listing.places.Tie as tie
 
 abbrev Inv-loop : tie.InvT-loop
-Inv-loop m plans last count₀ i₀ count i = (i ≤ m) × (count ≡ placesOf i plans) × (count ≤ 256 * i)
+Inv-loop m plans last count₀ i₀ count i = (i ≤ m) × (count ≡ placeCount i plans) × (count ≤ 256 * i)
 
 abbrev μ-loop : tie.MeasureT-loop
 μ-loop m plans last count₀ i₀ count i = m - i

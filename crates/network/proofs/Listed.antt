@@ -112,6 +112,7 @@ uncounted : (n x : ℕ) → x ≡ 0 → sumOf n (λ s. bit (eqb x s)) ≡ 0
 unfolding bit
 uncounted n x e = sum-none (λ s. bit (eqb x s)) n (λ i l k. rw (ne-eqb x i (omega arith)))
 
+-- Box b with plan p, where codes 7 and 8 find nothing.
 module _ (n : ℕ) (track : Track) (b : ℕ) (p : BoxPlan) (planned : Planned n p) (sides : Sides track b p) where
   -- A segment that it lists stands at one place of it.
   stands-once : (s : ℕ) → SegmentOf n s → bit (lists p s) ≡ bit (eqb (p .stem) s) + bit (eqb (p .left) s) + bit (eqb (p .right) s)

@@ -57,6 +57,7 @@ fn branch_away(number: u8, s: u8, ends: &[u8; 256]) -> bool
     ends[s as usize] != number
 }
 
+// The same of the left or the right of a box.
 fn some_branch_away(number: u8, p: BoxPlan, ends: &[u8; 256]) -> bool
     ensures { λ r. ⌜ r ≡ someBranchAway (λ x. getD (now (ends .entry)) x 0) number p ⌝ }
 {

@@ -5,30 +5,29 @@
 //! `tools/compare-definitions` has them checked.
 //! Arguments: seed, number of cases, steps per case.
 
-use std::fmt::Display;
+mod made_up;
+mod text;
 
+use made_up::{lock_case, made_up_case};
 use reference::argument::argument;
 use reference::atomic::{atomic_order, fold_places, WholeLine};
 use reference::generate::damage::damaged_file;
 use reference::generate::listing::damaged_listing;
-use reference::generate::lock_asked::{LockAsked, LOCKS_ASKED};
-use reference::generate::made_up::{lock_changes, step_on, Aim};
 use reference::generate::prng::Prng;
-use reference::generate::steps::{drive, Driver};
+use reference::generate::steps::drive;
 use reference::generate::tables::{accepted_table, largest_table};
 use reference::line::*;
-use reference::numbers::{ends_of_next, line_numbers, recorded};
+use reference::numbers::line_numbers;
 use reference::printout::printout;
-use reference::record::Record;
 use reference::refusal::numbers_of;
-use reference::step::{step_checked, Step};
-use reference::step_request::is_point;
+use reference::step::Step;
 use reference::table::{Table, TrainEntry};
 use reference::table_check::{stem_sides, StemSide};
 use reference::table_read::read_table;
 use reference::table_write::{file_bytes, write_table};
+use text::{list, steps_text, theorem, HEADER};
 
-const S: &[u8] = include_bytes!("../../../samples/s/net");
+const S: &[u8] = include_bytes!("../../../../samples/s/net");
 
 fn main() {
     let (seed, cases, steps) = (argument(1, 1), argument(2, 60), argument(3, 40));
@@ -48,66 +47,6 @@ fn main() {
         lock_case(&mut rng, case, steps as usize);
         listing_case(&mut Prng::for_case(seed + 1, case), case, &table);
     }
-}
-
-const HEADER: &str = "\
--- Generated cases: what the second implementation gives is what the definitions give.
-use mathlib.Core.Path.{_≡_, refl}
-use mathlib.Core.Bool.{Bool, true, false}
-use mathlib.Core.List.{List, [], _∷_}
-use Prim.Native.Nat.{ℕ}
-use Rattle.rules.specs.declared.SwitchBox.{SwitchBox}
-use Rattle.rules.specs.declared.Request.the-variants.{Reserve, Lock, GiveBack, Unlock}
-use Rattle.rules.specs.declared.Message.{Message}
-use Rattle.rules.specs.declared.Message.the-variants.{Idle, Sent, Answered}
-use Rattle.rules.specs.declared.Train.{Train}
-use Rattle.rules.specs.declared.Line.{Line}
-use Rattle.rules.specs.Rows.{filled}
-use Rattle.rules.specs.File.{decode}
-use Rattle.rules.specs.Line.{noBox, noTrain}
-use Rattle.rules.specs.Steps.{Step}
-use Rattle.rules.specs.Cases.{codeOf, sidesOf, rewritten, writtenTo, routeOf, printed, orderOf, placesOf, lineOf, atomicLineOf, atomicAnswersTo, checkedLine, stepOf, found}
-use Rattle.rules.proofs.Computing.{definitions}
-
-made-box : Bool → ℕ → ℕ → ℕ → ℕ → ℕ → SwitchBox
-made-box sensor position lock stem left right =
-    record { sensor = sensor; position = position; lock = lock; stem = stem; left = left; right = right }
-
-made-train : ℕ → ℕ → ℕ → ℕ → Bool → Bool → Bool → Message → Train
-made-train d r place covered near far lock g =
-    record { direction = d; length = r; place = place; covered = covered; near = near; far = far; lock = lock; message = g }
-
-made-line : List ℕ → List ℕ → List Train → List SwitchBox → Line
-made-line bytes routes trains boxes =
-    record { table = decode bytes; boxes = filled 96 noBox boxes; trains = filled 16 noTrain trains; routes = filled 1024 0 routes }
-
-";
-
-/// A theorem: what is found for the question is this list.
-fn theorem<N: Display>(name: &str, question: &str, expected: &[N]) {
-    println!("{name} : found ({question}) ≡ {}", list(expected));
-    println!("unfolding definitions made-box made-train made-line");
-    println!("{name} = refl\n");
-}
-
-fn list<N: Display>(numbers: &[N]) -> String {
-    let mut text = String::from("(");
-    for number in numbers {
-        text.push_str(&format!("{number} ∷ "));
-    }
-    text + "[])"
-}
-
-fn step_text([kind, train, number]: Step) -> String {
-    format!("stepOf {kind} {train} {number}")
-}
-
-fn steps_text(steps: &[Step]) -> String {
-    let mut text = String::from("(");
-    for &bytes in steps {
-        text.push_str(&format!("{} ∷ ", step_text(bytes)));
-    }
-    text + "[])"
 }
 
 /// An accepted table and a list of steps.
@@ -293,155 +232,6 @@ fn atomic_answers(name: &str, table: &Table, taken: &[Step]) {
     theorem(name, &question, &numbers);
 }
 
-/// A step on a record that differs in a few places from one that steps have reached.
-fn made_up_case(rng: &mut Prng, case: u64, table: &Table, steps: usize) {
-    for change in 0..4 {
-        let mut line = start_line(table);
-        let length = rng.between(0, steps);
-        drive(rng, &mut line, length);
-        let mut meant = None;
-        match change {
-            0 => alter_route(rng, &mut line),
-            1 => meant = alter_for_back(rng, &mut line),
-            _ => (0..rng.between(1, 3)).for_each(|_| alter(rng, &mut line)),
-        }
-        if meant.is_none() && rng.chance(10) {
-            alter_table(rng, &mut line.table);
-        }
-        let bytes = meant.unwrap_or_else(|| Driver::new(rng).next_step(rng, &line));
-        checked_step(&format!("made-up-{case}-{change}"), &line, bytes);
-    }
-}
-
-/// A theorem about a step on a record; the line after it.
-fn checked_step(name: &str, line: &Line, bytes: Step) -> Line {
-    let mut after = line.clone();
-    let mut numbers = vec![step_checked(&mut after, bytes)];
-    numbers.extend(line_numbers(&after));
-    theorem(name, &format!("checkedLine {} ({})", line_text(line), step_text(bytes)), &numbers);
-    after
-}
-
-/// A box's answer to a lock, with what it finds changed from a line that steps have reached, and the answer heard.
-fn lock_case(rng: &mut Prng, case: u64, steps: usize) {
-    let asked = LockAsked::all()[case as usize % LOCKS_ASKED];
-    let (reached, changes) = loop {
-        let mut line = start_line(&accepted_table(rng));
-        let length = rng.between(0, steps);
-        drive(rng, &mut line, length);
-        if let Some(changes) = lock_changes(rng, &line, asked) {
-            break (line, changes);
-        }
-    };
-    let line = Record::changed(&reached, &changes).line();
-    let answer = step_on(rng, &line, &changes, Aim::LockAsked);
-    let after = checked_step(&format!("lock-{case}"), &line, answer);
-    checked_step(&format!("lock-heard-{case}"), &after, [4, answer[1], 0]);
-}
-
-/// Puts another segment of the table at one place of a route as it stands, which then most often jumps.
-fn alter_route(rng: &mut Prng, line: &mut Line) {
-    let (train, segment) = (rng.below(line.trains.len()), rng.between(1, line.table.segments.len()) as u8);
-    if let Some(train) = line.trains.get_mut(train) {
-        let place = rng.below(train.route.len());
-        train.route[place] = segment;
-    }
-}
-
-/// Gives a train that has a next a give-back to send, or one that is sent or answered, with any holder at the box; the
-/// step that it is meant for.
-fn alter_for_back(rng: &mut Prng, line: &mut Line) -> Option<Step> {
-    let (k, first) = (line.trains.len(), rng.below(line.trains.len()));
-    let i = (0..k).map(|i| (i + first) % k).find(|&i| line.trains[i].next_segment().is_some())?;
-    let (next, near, far, ahead) = ends_of_next(line, i)?;
-    let (me, any) = (i as u8 + 1, rng.between(1, k) as u8);
-    let point = is_point(line, ahead);
-    let lock = rng.chance(if point { 60 } else { 10 });
-    let (wish, number) = match lock {
-        true => (Wish::LockBack, ahead),
-        false => (Wish::ReservationBack, rng.pick(&[near, far])),
-    };
-    let holder = rng.pick(&[me, me, 0, any]);
-    match line.box_state_mut(number) {
-        Some(state) if lock => state.lock = holder,
-        _ => line.set_reservation(next, number, holder),
-    }
-    let request = Request { wish, number };
-    let (kind, message) = match rng.below(10) {
-        0..=4 => (3, Message::Sent(request)),
-        5 | 6 => (4, Message::Answered(request, 0)),
-        7 => (4, Message::Answered(request, rng.pick(&[22, 22, 24, 29]))),
-        _ => (wish as u8, Message::None),
-    };
-    let (table, train) = (&line.table, &mut line.trains[i]);
-    train.message = message;
-    if rng.chance(60) {
-        train.holdings.add_reservation(table, next, near);
-        train.holdings.add_reservation(table, next, far);
-        train.holdings.add_lock(ahead);
-    }
-    Some([kind, me, if kind < 7 { 0 } else { number }])
-}
-
-/// Alters one part of a record, mostly into something that no steps reach.
-fn alter(rng: &mut Prng, line: &mut Line) {
-    let k = line.trains.len();
-    let holder = rng.below(k + 2) as u8;
-    if k == 0 || rng.chance(40) {
-        let b = rng.below(line.boxes.len());
-        let state = &mut line.boxes[b];
-        match rng.below(6) {
-            0 => state.sensor = !state.sensor,
-            1 => state.position = rng.below(4) as u8,
-            2 => state.lock = holder,
-            place => state.reserved[place - 3] = holder,
-        }
-        return;
-    }
-    let i = rng.below(k);
-    let m = line.boxes.len();
-    let ends = ends_of_next(line, i);
-    let table = line.table.clone();
-    let other = rng.below(k);
-    let train = &mut line.trains[i];
-    match rng.below(12) {
-        0 => train.direction = rng.below(3) as u8,
-        9..=11 => {
-            let entry = &table.trains[other];
-            train.direction = entry.direction;
-            train.route = entry.route.clone();
-            train.front = train.front.min(train.route.len() - 1);
-        }
-        1 => train.front = rng.below(train.route.len() + 1),
-        2 => train.covered = rng.below(4) as u8,
-        3 => {
-            let at = rng.below(train.route.len());
-            train.route[at] = rng.below(table.segments.len() + 2) as u8;
-        }
-        4 => train.route.truncate(rng.between(1, train.route.len())),
-        5 | 6 => {
-            if let Some((next, near, far, ahead)) = ends {
-                train.holdings.add_reservation(&table, next, near);
-                train.holdings.add_reservation(&table, next, far);
-                train.holdings.add_lock(ahead);
-            }
-        }
-        _ => {
-            let wish = rng.pick(&WISHES);
-            let number = match ends {
-                Some((_, near, far, _)) if rng.chance(80) => rng.pick(&[near, far]),
-                _ => rng.below(m + 2) as u8,
-            };
-            let request = Request { wish, number };
-            train.message = match rng.below(3) {
-                0 => Message::Sent(request),
-                1 => Message::Answered(request, 0),
-                _ => Message::Answered(request, rng.between(21, 26) as u8),
-            };
-        }
-    }
-}
-
 /// All trains and boxes of an atomic line as numbers; it has no messages.
 fn whole_numbers(table: &Table, whole: &WholeLine) -> Vec<u8> {
     let mut numbers = Vec::new();
@@ -465,51 +255,4 @@ fn whole_numbers(table: &Table, whole: &WholeLine) -> Vec<u8> {
         numbers.extend(state.holders);
     }
     numbers
-}
-
-/// A record in the text of the definitions.
-fn line_text(line: &Line) -> String {
-    let mut routes = Vec::new();
-    let mut trains = String::from("(");
-    for (i, train) in line.trains.iter().enumerate() {
-        let mut route = train.route.clone();
-        route.resize(64, 0);
-        routes.extend(route);
-        let [near, far, lock] = recorded(line, i);
-        trains.push_str(&format!(
-            "made-train {} {} {} {} {near} {far} {lock} {} ∷ ",
-            train.direction,
-            train.route.len(),
-            train.front + 1,
-            train.covered,
-            message_text(train.message),
-        ));
-    }
-    let mut boxes = String::from("(");
-    for state in &line.boxes {
-        let [stem, left, right] = state.reserved;
-        boxes.push_str(&format!(
-            "made-box {} {} {} {stem} {left} {right} ∷ ",
-            state.sensor, state.position, state.lock
-        ));
-    }
-    format!(
-        "(made-line {} {} {trains}[]) {boxes}[]))",
-        list(&file_bytes(&line.table)),
-        list(&routes)
-    )
-}
-
-fn message_text(message: Message) -> String {
-    let request = |request: Request| match request.wish {
-        Wish::Reservation => format!("(Reserve {})", request.number),
-        Wish::Lock => format!("(Lock {})", request.number),
-        Wish::ReservationBack => format!("(GiveBack {})", request.number),
-        Wish::LockBack => format!("(Unlock {})", request.number),
-    };
-    match message {
-        Message::None => "Idle".into(),
-        Message::Sent(asked) => format!("(Sent {})", request(asked)),
-        Message::Answered(asked, code) => format!("(Answered {} {code})", request(asked)),
-    }
 }

@@ -1,7 +1,7 @@
 -- What the conditions on a network say of the record at an index, in the words of the functions that test them.
 use Prim.Native.Nat.{ℕ, _+_, _≤_, _<_}
 use mathlib.Core.Path.{_≡_, sym, _∙_, ap}
-use mathlib.Core.Bool.{Bool, true, false, cond, not, _&&_, _||_, false≢true}
+use mathlib.Core.Bool.{Bool, true, false, cond, not, _&&_, _||_, false≢true, or-false as or-none}
 use mathlib.Core.List.{List}
 use native.Mathlib.Numerals.{add-one}
 use native.Mathlib.Decide.{decLt}
@@ -12,7 +12,7 @@ use lib.ListN.{length, getD}
 use Rattle.rules.specs.declared.Segment.{Segment}
 use Rattle.rules.specs.declared.BoxPlan.{BoxPlan}
 use Rattle.rules.specs.Rows.{anyOf, outside, nth}
-use Rattle.rules.proofs.Tests.{tests, answered, or-none, cond-same}
+use Rattle.rules.proofs.Tests.{tests, answered, cond-same}
 use Rattle.rules.proofs.Rows.{none-found, nth-at, nth-past}
 use Rattle.rules.specs.Track.{noSegment, noBoxPlan, trackBy, farBox, isPoint, positionFits}
 use Rattle.rules.specs.Network.{placeFault, branchesFault, planFault, planFaultAt}

@@ -2,7 +2,7 @@
 use Prim.Native.Nat.{ℕ, zero, suc, _+_, _-_, _*_, _≤_, _<_}
 use mathlib.Core.Path.{_≡_, refl, sym, _∙_, ap}
 use mathlib.Core.Logic.{_↔_, _≢_}
-use mathlib.Core.Bool.{Bool, true, false}
+use mathlib.Core.Bool.{Bool, true, false, or-false as or-none}
 use mathlib.Core.List.{List, [], _∷_, _++_, map, append-assoc, append-nil}
 use native.Mathlib.Decide.{ℕ-discrete, decLt}
 use native.Mathlib.Nat.{zero-add, add-zero, suc-add, mul-zero, mul-suc}
@@ -13,7 +13,7 @@ use lib.ListN.{length, getD, set, take, replicate, length-append, length-take, l
 use lib.Seq.{sets, take-all, length-take-le, getD-take, getD-append-add, ext-getD}
 use Rattle.rules.specs.Rows.{anyOf, nth, listFrom, listOf, joinFrom, joinOf, filled}
 use Rattle.rules.specs.Track.{routeAt}
-use Rattle.rules.proofs.Tests.{or-left, or-right, or-none, or-false, or-false-left, or-false-right}
+use Rattle.rules.proofs.Tests.{or-left, or-right, or-false, or-false-left, or-false-right}
 
 -- A test over the first i records that finds nothing, one record at a time; one that does not find record i + 1, and one that does.
 pub any-none : (f : ℕ → Bool) → anyOf 0 f ≡ false
@@ -348,14 +348,9 @@ route-past routes zero p h = refl
 route-past routes (suc i) zero h = refl
 route-past routes (suc i) (suc p) h = rw (le-ltb p 64 (omega arith))
 
--- Place p + 1 of the route of train i + 1, and its first place.
+-- Place p + 1 of the route of train i + 1.
 pub route-at : (routes : List ℕ) (i p : ℕ) → p < 64 → routeAt routes (i + 1) (p + 1) ≡ getD routes (64 * i + p) 0
 route-at routes i p h = route-index routes (i + 1) (p + 1) _ (omega arith) (omega arith) (omega arith) (omega arith)
-
-pub route-first : (routes : List ℕ) (i : ℕ) → routeAt routes (i + 1) 1 ≡ getD routes (64 * i) 0
-route-first routes i =
-    let e : 64 * i + 0 ≡ 64 * i = omega arith in
-    route-at routes i 0 (omega arith) ∙ ap (λ (n : ℕ). getD routes n 0) e
 
 -- The length of an array of records, from what a program knows of their values.
 pub length-mapped : {X Y : Type 0} (f : X → Y) (l : List X) (n : ℕ) → length (map f l) ≡ n → length l ≡ n

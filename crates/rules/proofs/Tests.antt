@@ -36,10 +36,6 @@ pub or-false : (a b : Bool) → a ≡ false → b ≡ false → (a || b) ≡ fal
 or-false false b e f = f
 or-false true b e f = e
 
-pub or-none : (a : Bool) → (a || false) ≡ a
-or-none true = refl
-or-none false = refl
-
 pub or-last : (a b z : Bool) → a ≡ false → z ≡ b → z ≡ (a || b)
 or-last false b z e f = f
 or-last true b z e f = absurd (false≢true (sym e))

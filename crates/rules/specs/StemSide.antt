@@ -16,7 +16,7 @@ isSide track b s AEnd = hasEndA track s b
 isSide track b s BEnd = hasEndB track s b
 isSide track b s Neither = not (hasEndA track s b || hasEndB track s b)
 
--- The first of the three that is so; where both ends are at two boxes, as code 6 asks, the only one.
+-- The first of the three that is so; where the ends of s are at two boxes, as code 6 asks, the only one.
 unfoldable pub stemSide : Track → ℕ → ℕ → StemSide
 stemSide track b s = cond (isSide track b s AEnd) AEnd (cond (isSide track b s BEnd) BEnd Neither)
 

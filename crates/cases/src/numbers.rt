@@ -67,12 +67,13 @@ fn put_box(switchbox: SwitchBox) {
     put_hex(&numbers);
 }
 
-// A message's state (0 none, 1 sent, 2 answered), and its request's kind and box and its answer, 0 where there is none.
+// A message's state (0 none, 1 sent, 2 answered, 3 lost), and its request's kind and box and its answer, 0 where there is none.
 fn put_message(message: Message) {
     match message {
         Message::Idle => put_numbers(0, 0, 0, 0),
         Message::Sent(q) => put_request(1, q, 0),
         Message::Answered(q, code) => put_request(2, q, code),
+        Message::Lost(q) => put_request(3, q, 0),
     }
 }
 

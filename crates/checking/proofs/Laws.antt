@@ -11,7 +11,7 @@ use lib.ListN.{length, getD}
 use Rattle.rules.specs.declared.Request.{Request}
 use Rattle.rules.specs.declared.Request.the-variants.{Reserve, Lock, GiveBack, Unlock}
 use Rattle.rules.specs.declared.Message.{Message}
-use Rattle.rules.specs.declared.Message.the-variants.{Idle, Sent, Answered}
+use Rattle.rules.specs.declared.Message.the-variants.{Idle, Sent, Answered, Lost}
 use Rattle.rules.specs.declared.BoxPlan.{BoxPlan}
 use Rattle.rules.specs.declared.SwitchBox.{SwitchBox}
 use Rattle.rules.specs.declared.Train.{Train}
@@ -81,9 +81,13 @@ module _ (v : Around) (r : Train) (g : Message) where
     unfolding messageFault
     message-sent e = rw e told
 
-    pub message-lost : (c : ℕ) → g ≡ Answered q c → z ≡ true → true ≡ messageFault v r g
+    pub message-lost : g ≡ Lost q → z ≡ messageFault v r g
     unfolding messageFault
-    message-lost c e f = rw e (is-true _ (or-left _ _ (answered _ _ _ told f)))
+    message-lost e = rw e told
+
+    pub message-astray : (c : ℕ) → g ≡ Answered q c → z ≡ true → true ≡ messageFault v r g
+    unfolding messageFault
+    message-astray c e f = rw e (is-true _ (or-left _ _ (answered _ _ _ told f)))
 
     pub message-answered : (c : ℕ) (y : Bool) → g ≡ Answered q c → z ≡ false → y ≡ answerCode q c → not y ≡ messageFault v r g
     unfolding messageFault

@@ -68,6 +68,7 @@ fn message_faulty(
             }
             !answer_code(q, code)
         }
+        Message::Lost(q) => address_faulty(number, r, q, routes, a, b, kinds),
     }
 }
 

@@ -2,6 +2,7 @@
 // computer decides, `switchbox` what the box does. All is passed by value: `running` and `engine` copy the train, what stands around it and
 // the box out of the line, have the step decided here, and put back what it changed.
 pub mod moves;
+mod radio;
 pub mod requests;
 
 use rules::Around;
@@ -20,29 +21,25 @@ ghost use Rattle.rules.specs.Track.{noBoxPlan};
 ghost use Rattle.rules.specs.Line.{noBox};
 ghost use Rattle.rules.specs.Steps.{formRows, concernedBox, alone, effect};
 
-// Code 13 of kinds 1 to 8: kinds 3 to 6 have no box byte.
-fn byte_code(kind: u8, at: u8) -> u8
-    requires { ⌜ 1 ≤ kind ⌝ }
-    requires { ⌜ kind ≤ 8 ⌝ }
-    ensures { λ c. ⌜ c ≡ first (formRows kind at) ⌝ }
+// Code 13 of a kind that has no box byte.
+fn no_byte_code(at: u8) -> u8
+    ensures { λ c. ⌜ c ≡ cond (eqb at 0) 0 13 ⌝ }
 {
-    match kind {
-        3..=6 => {
-            if at != 0 {
-                return 13;
-            }
-            0
-        }
-        _ => 0,
+    if at != 0 {
+        return 13;
     }
+    0
 }
 
-// Code 13: kinds 1, 2, 7 and 8 have a box byte, kinds 3 to 6 have none, and there is no other kind.
+// Code 13: kinds 1, 2, 7 and 8 have a box byte, kinds 3 to 6, 9 and 10 have none, and there is no other kind.
 pub fn form_code(kind: u8, at: u8) -> u8
     ensures { λ c. ⌜ c ≡ first (formRows kind at) ⌝ }
 {
     match kind {
-        1..=8 => byte_code(kind, at),
+        1..=2 => 0,
+        3..=6 => no_byte_code(at),
+        7..=8 => 0,
+        9..=10 => no_byte_code(at),
         _ => 13,
     }
 }
@@ -70,7 +67,7 @@ fn returned(kind: u8, at: u8) -> Request
     Request::Unlock(at)
 }
 
-// The kinds that are the train's alone, 1, 2, 4, 7 and 8; there is no other. The box is handed through.
+// The kinds that are the train's alone, 1, 2, 4 and 7 to 10; there is no other. The box is handed through.
 pub fn alone(kind: u8, at: u8, v: Around, r: Train, x: SwitchBox) -> Effect
     ensures { λ d. ⌜ d ≡ alone kind at v r x ⌝ }
 {
@@ -78,13 +75,15 @@ pub fn alone(kind: u8, at: u8, v: Around, r: Train, x: SwitchBox) -> Effect
         1 => requests::ask(v, r, x, Request::Reserve(at)),
         2 => requests::ask(v, r, x, Request::Lock(at)),
         4 => requests::hear(v, r, x),
+        9 => radio::lose(r, x),
+        10 => radio::send_again(r, x),
         7..=8 => requests::send(v, r, x, returned(kind, at)),
         _ => Effect::Refused(13),
     }
 }
 
-// A step by its kind: of the train with this record and what stands around it, at the box that it concerns. That kinds 3 to 6 have
-// no box byte is `form_code`'s affair.
+// A step by its kind: of the train with this record and what stands around it, at the box that it concerns. Which kinds have no box
+// byte is `form_code`'s affair.
 pub fn decide(kind: u8, at: u8, v: Around, r: Train, p: BoxPlan, x: SwitchBox) -> Effect
     ensures { λ d. ⌜ d ≡ effect kind at v r p x ⌝ }
 {

@@ -55,6 +55,7 @@ pub fn answer(v: Around, r: Train, p: BoxPlan, x: SwitchBox) -> Effect
         Message::Idle => Effect::Refused(21),
         Message::Sent(q) => reply(v, r, p, x, q),
         Message::Answered(_, _) => Effect::Refused(21),
+        Message::Lost(_) => Effect::Refused(21),
     }
 }
 
@@ -67,5 +68,6 @@ pub(crate) fn hear(v: Around, r: Train, x: SwitchBox) -> Effect
         Message::Idle => Effect::Refused(21),
         Message::Sent(_) => Effect::Refused(21),
         Message::Answered(q, code) => Effect::Changed(code, traincomputer::heard(v, r, q, code), x),
+        Message::Lost(_) => Effect::Refused(21),
     }
 }

@@ -9,7 +9,7 @@ use Rattle.rules.specs.declared.BoxPlan.{BoxPlan}
 use Rattle.rules.specs.declared.SwitchBox.{SwitchBox}
 use Rattle.rules.specs.declared.Request.{Request}
 use Rattle.rules.specs.declared.Message.{Message}
-use Rattle.rules.specs.declared.Message.the-variants.{Idle, Sent, Answered}
+use Rattle.rules.specs.declared.Message.the-variants.{Idle, Sent, Answered, Lost}
 use Rattle.rules.specs.declared.Line.{Line}
 use Rattle.rules.specs.declared.Around.{Around}
 use Rattle.rules.specs.declared.Effect.the-variants.{Refused}
@@ -17,7 +17,7 @@ use Rattle.rules.specs.Line.{aroundOn, around, trainAt, requestBox, mess
 use Rattle.rules.specs.Steps.{boxAnswers, concernedBox}
 use Rattle.rules.specs.Record.{recordFault}
 use Rattle.rules.specs.Safety.{TrainOf}
-use Rattle.rules.specs.Invariant.{Open, sent, answered}
+use Rattle.rules.specs.Invariant.{Open, sent, answered, lost}
 use Rattle.rules.proofs.Tests.{cond-each}
 use Rattle.rules.proofs.Accepted.{BoxOf}
 use Rattle.rules.proofs.Sound.{LineSound, open-address, sound-iff}
@@ -48,6 +48,7 @@ module _ (l : Line) (sound : recordFault l ≡ false) (i : ℕ) (train : TrainOf
   message-there Idle e n = absurd (n refl)
   message-there (Sent q) e n = open-there (rw e sent)
   message-there (Answered q c) e n = open-there (rw e answered)
+  message-there (Lost q) e n = open-there (rw e lost)
 
   pub asked-there : messageBox (trainAt l i .message) ≢ 0 → BoxOf (l .table .m) (messageBox (trainAt l i .message))
   asked-there = message-there _ refl
@@ -70,6 +71,7 @@ module _ (l : Line) (sound : recordFault l ≡ false) (i : ℕ) (train : TrainOf
   nothing-sent v p x Idle e none = refl
   nothing-sent v p x (Sent q) e none = absurd (unboxed (open-there (rw e sent)) none)
   nothing-sent v p x (Answered q c) e none = refl
+  nothing-sent v p x (Lost q) e none = refl
 
   pub unasked : (v : Around) (p : BoxPlan) (x : SwitchBox) → messageBox (trainAt l i .message) ≡ 0
       → Refused 21 ≡ boxAnswers v (trainAt l i) p x (trainAt l i .message)

@@ -3,20 +3,19 @@ use Prim.Native.Nat.{ℕ, _+_}
 use mathlib.Core.Path.{_≡_, refl, sym, _∙_, ap}
 use mathlib.Core.Bool.{true, false}
 use mathlib.Core.List.{List, [], _∷_, _++_}
-use mathlib.Core.Option.{none}
 use native.Mathlib.Omega.{arith}
 use Rattle.rules.specs.declared.Table.{Table}
 use Rattle.rules.specs.declared.SwitchBox.{SwitchBox}
 use Rattle.rules.specs.declared.Train.{Train}
 use Rattle.rules.specs.declared.Line.{Line}
-use Rattle.rules.specs.declared.Around.{Around}
 use Rattle.rules.specs.Track.{planAt, trainPlanAt, routeAt, isPoint, joins}
 use Rattle.rules.specs.Line.{startTrain, startLine, boxAt, trainAt}
 use Rattle.rules.specs.Steps.{Step, step}
 use Rattle.rules.specs.History.{Call, _answered_, Place, startPlace, lineAfter, events, movedBy, placeAfter}
-use Rattle.rules.specs.Atomic.{Kept, keep, added, orderFrom, order, atomicStep, stopped}
+use Rattle.rules.specs.Atomic.{Kept, keep, keptBy, noneKept, isGranted, added, orderFrom, order, atomicStep, stopped}
 use Rattle.rules.specs.Safety.{TrainOf, Fixed, placeOf, reached, whereIs, ordered, atomic, CrossesBox, Safe, Demand3}
-use Rattle.rules.specs.Invariant.{withTrains, settled, believed, CrossesAt, crossedPoint, Invariant}
+use Rattle.rules.specs.Consequences.{grantedAfter}
+use Rattle.rules.specs.Invariant.{Counts, quiet, settling, believing, believed, CrossesAt, crossedPoint, Invariant}
 use Rattle.rules.proofs.Tests.{or-false-iff}
 use Rattle.rules.proofs.Accepted.{Accepted}
 use Rattle.rules.proofs.Routes.{far-once}
@@ -24,9 +23,11 @@ use Rattle.rules.proofs.Files.{file-iff}
 use Rattle.rules.proofs.StepKinds.{does}
 use Rattle.rules.proofs.Change.{Steady}
 use Rattle.rules.proofs.Start.{start-train, start-message, quiet-start, start-invariant}
-use Rattle.rules.proofs.Settled.{sized, Quiets, settling, believing, alike-quiet, box-quiet}
-use Rattle.rules.proofs.Simulates.{Remembers, not-idle, simulates}
-use Rattle.rules.proofs.Keeps.{steady, keeps}
+use Rattle.rules.proofs.Settled.{sized, alike-quiet, box-quiet}
+use Rattle.rules.proofs.Simulates.{Remembers, simulates}
+use Rattle.rules.proofs.StepRows.{not-open}
+use Rattle.rules.proofs.Again.{steady}
+use Rattle.rules.proofs.Keeps.{keeps, keeps-all}
 use Rattle.rules.proofs.Moves.{place-alike, table-stays, fixed-stays, places-move, boxes-still}
 
 -- Two lists of steps, one after the other: the line after them, and whether one of them is stopped.
@@ -46,14 +47,14 @@ unstopped-append call l (s ∷ a) b h k =
     simp or-false-iff (this, unstopped-append call (call l s .line) a b rest k)
 
 -- The settled line and the atomic line have the line's places, table, routes, directions and route lengths.
-quiet-fixed : {f : Around → Train → Train} → Quiets f → {t : Table} {l : Line} → Fixed t l → Fixed t (withTrains f l)
-unfolding withTrains
-quiet-fixed z {t} {l} f =
+quiet-fixed : (n : Counts) {t : Table} {l : Line} → Fixed t l → Fixed t (quiet n l)
+unfolding quiet
+quiet-fixed n {t} {l} f =
     record {
       table = f .table;
       routes = f .routes;
-      directions = λ i k. alike-quiet z l i .direction ∙ f .directions i k;
-      lengths = λ i k. alike-quiet z l i .length ∙ f .lengths i k;
+      directions = λ i k. alike-quiet n l i .direction ∙ f .directions i k;
+      lengths = λ i k. alike-quiet n l i .length ∙ f .lengths i k;
     }
 
 -- A line has the table, the routes and the directions of t, and train i is at this place: what t says of its crossing, the line
@@ -77,18 +78,18 @@ crossed-joined h {i} k {q} {b} c e =
 
 -- A list of steps from a line on which the invariant holds, with the requests kept before it.
 pub record Ran (kept : Kept) (l : Line) (steps : List Step) : Type 0 where
-  pub invariant : Invariant (lineAfter step l steps)
-  pub atomic : lineAfter atomicStep (believed l) (orderFrom kept (events step l steps)) ≡ believed (lineAfter step l steps)
-  pub unstopped : stopped (events atomicStep (believed l) (orderFrom kept (events step l steps))) ≡ false
+  pub atomic
+      : lineAfter atomicStep (believed (isGranted kept) l) (orderFrom kept (events step l steps))
+      ≡ believed (isGranted (keptBy kept (events step l steps))) (lineAfter step l steps)
+  pub unstopped : stopped (events atomicStep (believed (isGranted kept) l) (orderFrom kept (events step l steps))) ≡ false
   pub fixed : (t : Table) → Fixed t l → Fixed t (lineAfter step l steps)
   pub places
       : (i : ℕ) → TrainOf (l .table) i → placeOf (lineAfter step l steps) i ≡ movedBy i (placeOf l i) (events step l steps)
 
-pub ran : (kept : Kept) (l : Line) → Invariant l → Remembers kept l → (steps : List Step) → Ran kept l steps
-unfolding lineAfter events orderFrom movedBy stopped
+pub ran : (kept : Kept) (l : Line) → Invariant (isGranted kept) l → Remembers kept l → (steps : List Step) → Ran kept l steps
+unfolding lineAfter events orderFrom keptBy movedBy stopped
 ran kept l h k [] =
     record {
-      invariant = h;
       atomic = refl;
       unstopped = refl;
       fixed = λ t f. f;
@@ -98,12 +99,11 @@ ran kept l h k (s ∷ rest) =
     let o = step l s in
     let e = s answered o .code in
     let d = does l s in
-    let now = simulates l h kept k s o d in
-    let later = ran (keep kept e) (o .line) (keeps l h s o d) (now .remembers) rest in
+    let now = simulates kept l h k s o d in
+    let later = ran (keep kept e) (o .line) (keeps kept l h s o d) (now .remembers) rest in
     record {
-      invariant = later .invariant;
       atomic = rw (line-append, now .line) (later .atomic);
-      unstopped = unstopped-append atomicStep (believed l) (added kept e) (orderFrom (keep kept e) (events step (o .line) rest))
+      unstopped = unstopped-append atomicStep (believed (isGranted kept) l) (added kept e) (orderFrom (keep kept e) (events step (o .line) rest))
           (now .unstopped) (rw (now .line) (later .unstopped));
       fixed = λ t f. later .fixed t (fixed-stays d f);
       places = λ i t. rw (places-move d (sized h) i t) at (later .places i (rw (table-stays d) t));
@@ -111,10 +111,10 @@ ran kept l h k (s ∷ rest) =
 
 -- After a list of steps from the start line of an accepted table.
 module _ {t : Table} (a : Accepted t) where
-  from-start : (steps : List Step) → Ran (λ i. none) (startLine t) steps
+  from-start : (steps : List Step) → Ran noneKept (startLine t) steps
   from-start =
-      ran (λ i. none) (startLine t) (start-invariant t a)
-      (record { request = λ i k q e. absurd (not-idle (sym (start-message t a i) ∙ e)) })
+      ran noneKept (startLine t) (start-invariant t a (isGranted noneKept))
+      (record { request = λ i k q o. absurd (not-open (start-message t a i) o) })
 
   start-fixed : Fixed t (startLine t)
   unfolding startLine startTrain trainPlanAt
@@ -133,16 +133,16 @@ module _ {t : Table} (a : Accepted t) where
   module _ (steps : List Step) where
     -- The invariant holds; the atomic line is the line as its trains believe it, and nothing was stopped; the table, the routes and the
     -- places of the accepted moves are the line's.
-    pub invariant-after : Invariant (reached t steps)
-    invariant-after = from-start steps .invariant
+    pub invariant-after : Invariant (grantedAfter t steps) (reached t steps)
+    invariant-after = keeps-all noneKept (startLine t) (start-invariant t a (isGranted noneKept)) steps
 
-    pub same-atomic : atomic t steps ≡ believed (reached t steps)
+    pub same-atomic : atomic t steps ≡ believed (grantedAfter t steps) (reached t steps)
     unfolding order
-    same-atomic = rw (quiet-start t a believing) at (from-start steps .atomic)
+    same-atomic = rw (quiet-start t a (believing (isGranted noneKept))) at (from-start steps .atomic)
 
     nothing-stopped : stopped (events atomicStep (startLine t) (ordered t steps)) ≡ false
     unfolding order
-    nothing-stopped = rw (quiet-start t a believing) at (from-start steps .unstopped)
+    nothing-stopped = rw (quiet-start t a (believing (isGranted noneKept))) at (from-start steps .unstopped)
 
     pub line-fixed : Fixed t (reached t steps)
     line-fixed = from-start steps .fixed t start-fixed
@@ -152,28 +152,30 @@ module _ {t : Table} (a : Accepted t) where
     line-place i k = rw (start-place i k) at (from-start steps .places i (rw (start-fixed .table) k))
 
     -- So are they the settled line's and the atomic line's; and the settled line crosses the same boxes.
-    quiet-placed : {f : Around → Train → Train} → Quiets f → (i : ℕ) → TrainOf t i
-        → placeOf (withTrains f (reached t steps)) i ≡ whereIs t steps i
-    quiet-placed z i k = place-alike (alike-quiet z (reached t steps) i) ∙ line-place i k
+    quiet-placed : (n : Counts) (i : ℕ) → TrainOf t i → placeOf (quiet n (reached t steps)) i ≡ whereIs t steps i
+    quiet-placed n i k = place-alike (alike-quiet n (reached t steps) i) ∙ line-place i k
+
+    abbrev settles : Counts
+    settles = settling (grantedAfter t steps)
 
     abbrev settledLine : Line
-    settledLine = settled (reached t steps)
+    settledLine = quiet settles (reached t steps)
 
     known : {i : ℕ} → TrainOf t i → TrainOf (settledLine .table) i
-    known k = rw (quiet-fixed settling line-fixed .table) k
+    known k = rw (quiet-fixed settles line-fixed .table) k
 
     crosses : {i : ℕ} → TrainOf t i → {q b : ℕ} → CrossesBox t i (whereIs t steps i) q b
         → CrossesAt (settledLine .table) (settledLine .routes) i (trainAt settledLine i) q b
-    crosses {i} k c = crosses-on (quiet-fixed settling line-fixed) k (quiet-placed settling i k) c
+    crosses {i} k c = crosses-on (quiet-fixed settles line-fixed) k (quiet-placed settles i k) c
 
     -- Crossed boxes are sensed, and the atomic line has the same boxes.
     pub sensed-there : {i : ℕ} → TrainOf t i → {q b : ℕ} → CrossesBox t i (whereIs t steps i) q b
         → boxAt (reached t steps) b .sensor ≡ true
     sensed-there {i} k {q} {b} c =
-        rw (box-quiet settling) at (invariant-after .fitting .fits i (known k) b .sensed q (crosses k c))
+        rw (box-quiet settles) at (invariant-after .fitting .fits i (known k) b .sensed q (crosses k c))
 
     same-box : (b : ℕ) → boxAt (reached t steps) b ≡ boxAt (atomic t steps) b
-    same-box b = rw (same-atomic, box-quiet believing)
+    same-box b = rw (same-atomic, box-quiet)
 
   reached-next : (steps : List Step) (s : Step) → reached t (steps ++ (s ∷ [])) ≡ step (reached t steps) s .line
   unfolding lineAfter
@@ -183,26 +185,26 @@ module _ {t : Table} (a : Accepted t) where
   safe steps =
       record {
         apart = λ i j k m p q c d e. invariant-after steps .fitting .apart i j (known steps k) (known steps m) p q
-            (rw (quiet-placed steps settling i k) c) (rw (quiet-placed steps settling j m) d)
-            (rw (quiet-fixed settling (line-fixed steps) .routes) e);
+            (rw (quiet-placed steps (settles steps) i k) c) (rw (quiet-placed steps (settles steps) j m) d)
+            (rw (quiet-fixed (settles steps) (line-fixed steps) .routes) e);
         within = λ i k.
             let front = steady (invariant-after steps) .placed i (known steps k) .front in
-            let place = ap (λ (p : Place). p .place) (quiet-placed steps settling i k) in
-            let length = quiet-fixed settling (line-fixed steps) .lengths i k in
+            let place = ap (λ (p : Place). p .place) (quiet-placed steps (settles steps) i k) in
+            let length = quiet-fixed (settles steps) (line-fixed steps) .lengths i k in
             omega arith;
         joined = λ i k q b c e.
-            let f = quiet-fixed settling (line-fixed steps) in
-            rw (box-quiet settling, f .table, f .routes) at
+            let f = quiet-fixed (settles steps) (line-fixed steps) in
+            rw (box-quiet (settles steps), f .table, f .routes) at
             (crossed-joined (steady (invariant-after steps)) (known steps k) (crosses steps k c) (rw (f .table) e));
         still = λ s i k q b c. boxes-still (does (reached t steps) s) b .before (sensed-there steps k c);
         stillAfter = λ s i k q b c.
             boxes-still (does (reached t steps) s) b .after (rw (reached-next steps s) at (sensed-there (steps ++ (s ∷ [])) k c));
         sound = invariant-after steps .sound;
         fixed = line-fixed steps;
-        atomicFixed = rw (same-atomic steps) (quiet-fixed believing (line-fixed steps));
+        atomicFixed = rw (same-atomic steps) (quiet-fixed (believing (grantedAfter t steps)) (line-fixed steps));
         unstopped = nothing-stopped steps;
         places = line-place steps;
-        atomicPlaces = rw (same-atomic steps) (quiet-placed steps believing);
+        atomicPlaces = rw (same-atomic steps) (quiet-placed steps (believing (grantedAfter t steps)));
         sensors = λ b. ap (λ (x : SwitchBox). x .sensor) (same-box steps b);
         positions = λ b. ap (λ (x : SwitchBox). x .position) (same-box steps b);
         locks = λ b. ap (λ (x : SwitchBox). x .lock) (same-box steps b);

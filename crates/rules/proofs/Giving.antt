@@ -179,7 +179,7 @@ module _ {a : Line} (h : Steady a) {i : ℕ} (k : TrainOf (a .table) i) where
   unfolding requestBox holdingBox holding givesBack recorded stands freed around aroundOn
   give-fits q gives e new =
       let (next, at) = address-iff (around a i) r q .0 e in
-      granted-each (λ x. Fitting (put a i r (requestBox q) x)) _ _ _ q (λ n. absurd (false≢true (sym n ∙ gives))) (λ _. by q next at new)
+      granted-each (λ x. Fitting (put a i r (requestBox q) x)) _ _ _ q (λ n _. absurd (false≢true (sym n ∙ gives))) (λ _. by q next at new)
       (rw (train-alone, train-back) (h .fitting))
     where
       lock : (b : ℕ) → addressed (around a i) (LockAt b) ≡ true → r .lock ≡ false → boxAt a b .lock ≡ i

@@ -16,13 +16,13 @@ use Rattle.rules.specs.Track.{planAt}
 use Rattle.rules.specs.Line.{aroundOn, aroundTrain, around, boxAt, trainAt, putTrain, requestBox, holding, givesBack}
 use Rattle.rules.specs.Steps.{Step, recorded, requestRows, withMessage, withHolding, withoutHolding, granted, sending, heard}
 use Rattle.rules.specs.Safety.{TrainOf}
-use Rattle.rules.specs.Invariant.{settledBy, settledTrain, settled, believedBy, believedTrain, believed, sent, Open, Invariant}
+use Rattle.rules.specs.Invariant.{Granted, counted, settling, settled, believing, believed, sent, Open, Invariant}
 use Rattle.rules.proofs.Frames.{put}
 use Rattle.rules.proofs.StepKinds.{afterSending, afterRequest, afterGrant, Sends, Answers}
 use Rattle.rules.proofs.StepRows.{address-iff, request-iff}
 use Rattle.rules.proofs.Holdings.{recorded-dropped, dropped-recorded, recorded-now, dropped-now}
-use Rattle.rules.proofs.Settled.{line-sound, around-alike, message-alike, holding-alike, holding-message, sending-alike, settling, believing, table-quiet, train-quiet, around-quiet, box-quiet, train-put-quiet, same-quiet}
-use Rattle.rules.proofs.SettledSteps.{addressed-open, request-free, message-gone, message-recorded, message-now, grant-line}
+use Rattle.rules.proofs.Settled.{line-sound, around-alike, message-alike, holding-alike, holding-message, sending-alike, idle-quiet, open-quiet, table-quiet, around-quiet, box-quiet, train-put-quiet, same-quiet}
+use Rattle.rules.proofs.SettledSteps.{addressed-open, request-free, message-gone, message-recorded, message-now, idle-train, open-train, SameBut, settles, believes, others-count, grant-line}
 
 -- A train that has sent a request has not recorded what it is about. One that has sent a give-back, once its message is taken away.
 pub sending-unrecorded : (v : Around) (r : Train) (q : Request) → recorded v r (holding q) ≡ givesBack q
@@ -48,78 +48,71 @@ sending-gone : (v : Around) (r : Train) (q : Request) → givesBack q ≡ true �
 unfolding sending withMessage
 sending-gone v r q gives idle = rw gives (message-gone (withoutHolding v r (holding q)) (without-message v r (holding q) ∙ idle))
 
-pub settled-sent : (v : Around) (r : Train) (q : Request) → r .message ≡ Sent q → settledTrain v r ≡ withMessage r Idle
-unfolding settledTrain settledBy
-settled-sent v r q e = ap (settledBy v r) e
-
-believed-sent : (v : Around) (r : Train) (q : Request) → givesBack q ≡ true → r .message ≡ Sent q
-    → believedTrain v r ≡ withHolding v (withMessage r Idle) (holding q)
-unfolding believedTrain believedBy
-believed-sent v r q gives e = ap (believedBy v r) e ∙ rw gives
-
 -- The ends of a train's next segment are at two boxes.
-ends-differ : {l : Line} → Invariant l → {i : ℕ} → TrainOf (l .table) i → trainAt l i .place < trainAt l i .length
+ends-differ : {g : Granted} {l : Line} → Invariant g l → {i : ℕ} → TrainOf (l .table) i → trainAt l i .place < trainAt l i .length
     → around l i .nearEnd ≢ around l i .farEnd
 unfolding around aroundOn
-ends-differ {l} h {i} k next =
+ends-differ {l = l} h {i} k next =
     let sound = line-sound h in
     sound .table .ends _ (sound .trains i k .route .segment (trainAt l i .place + 1) (omega arith) (omega arith)) .differ _
 
-module _ {l : Line} {s : Step} {q : Request} (gives : givesBack q ≡ true) where
+-- What has been granted changes from g to f, for the step's train alone.
+module _ {l : Line} {s : Step} {q : Request} (gives : givesBack q ≡ true) {g f : Granted} (same : SameBut (s .train) g f) where
   -- On the settled line the record is gone when the give-back is sent, and the box alone changes when it is answered.
   pub send-settled : Sends l s q
-      → settled (afterSending l (s .train) q)
-      ≡ putTrain (settled l) (s .train) (withoutHolding (around (settled l) (s .train)) (trainAt (settled l) (s .train)) (holding q))
-  unfolding around
+      → settled f (afterSending l (s .train) q)
+      ≡ putTrain (settled g l) (s .train) (withoutHolding (around (settled g l) (s .train)) (trainAt (settled g l) (s .train)) (holding q))
+  unfolding around counted
   send-settled w =
       let i = s .train in
       let r = trainAt l i in
       let idle = request-iff _ _ q .0 (w .free) .0 in
-      let gone = settled-sent (aroundTrain (l .table) (l .routes) i (sending (around l i) r q)) (sending (around l i) r q) q (sending-message _ r q) in
-      train-put-quiet settling l i (sending (around l i) r q)
-      ∙ rw (gone, sending-gone (around l i) r q gives idle, around-quiet settling l i, train-quiet settling, settling .idle _ r idle)
+      let now : Open q (sending (around l i) r q .message) = rw (sending-message (around l i) r q) sent in
+      train-put-quiet (settling g) (settling f) l i (others-count settles same) (sending (around l i) r q)
+      ∙ rw (open-quiet (settling f) _ (sending (around l i) r q) now, gives, sending-gone (around l i) r q gives idle, around-quiet, idle-train (settling g) l i idle)
 
   pub grant-settled : Answers l s q 0
-      → settled (afterGrant l (s .train) q)
-      ≡ put (settled l) (s .train) (trainAt (settled l) (s .train)) (requestBox q)
-      (granted (around (settled l) (s .train)) (planAt (settled l .table) (requestBox q)) (boxAt (settled l) (requestBox q)) q)
-  unfolding heard
+      → settled f (afterGrant l (s .train) q)
+      ≡ put (settled g l) (s .train) (trainAt (settled g l) (s .train)) (requestBox q)
+      (granted (around (settled g l) (s .train)) (planAt (settled g l .table) (requestBox q)) (boxAt (settled g l) (requestBox q)) q)
   grant-settled w =
       let i = s .train in
-      rw (grant-line settling l i q, around-quiet settling l i, box-quiet settling, train-quiet settling, settled-sent _ (trainAt l i) q (w .sent), table-quiet settling, gives)
+      rw (grant-line settles l i same q, around-quiet, box-quiet, open-train (settling g) l i {q = q} (rw (w .sent) sent), table-quiet, gives)
 
-  module _ (h : Invariant l) where
-    -- On the atomic line nothing changes when it is sent; it is carried out when it is answered, and no row stops it there.
-    pub send-believed : Sends l s q → believed (afterSending l (s .train) q) ≡ believed l
-    unfolding around
-    send-believed w =
+  module _ (h : Invariant g l) where
+    -- On the atomic line nothing changes when it is sent; it is carried out when it is answered first, and no row stops it there.
+    pub send-believed : Sends l s q → f (s .train) ≡ false → believed f (afterSending l (s .train) q) ≡ believed g l
+    unfolding around aroundOn counted
+    send-believed w new =
         let i = s .train in
         let r = trainAt l i in
         let (idle, (address, known)) = request-iff (around l i) r q .0 (w .free) in
-        same-quiet believing l i _
-        (believed-sent _ _ q gives (sending-message (around l i) r q)
-        ∙ rw (around-alike _ _ i (sending-alike (around l i) r q), sending-gone (around l i) r q gives idle)
+        let now : Open q (sending (around l i) r q .message) = rw (sending-message (around l i) r q) sent in
+        same-quiet (believing g) (believing f) l i (others-count believes same) _
+        (open-quiet (believing f) _ (sending (around l i) r q) now
+        ∙ rw (gives, new, around-alike _ _ i (sending-alike (around l i) r q), sending-gone (around l i) r q gives idle)
         (dropped-recorded (around l i) r (holding q) (ends-differ h (w .train) (address-iff _ r q .0 address .0)) (known ∙ gives)
-        ∙ sym (believing .idle _ r idle)))
+        ∙ sym (idle-quiet (believing g) _ r idle)))
 
-    pub grant-believed : Answers l s q 0 → believed (afterGrant l (s .train) q) ≡ afterRequest (believed l) (s .train) q
-    unfolding heard
-    grant-believed w =
-        let i = s .train in
-        let r = trainAt l i in
-        let asked : Open q (r .message) = rw (w .sent) sent in
-        let dropped = recorded-dropped (around l i) (withMessage r Idle) (holding q) (message-recorded _ r Idle (holding q) ∙ h .unrecorded i (w .train) q asked) in
-        rw (grant-line believing l i q, around-quiet believing l i, box-quiet believing, train-quiet believing, believed-sent _ r q gives (w .sent), table-quiet believing, gives, dropped)
+    module _ (w : Answers l s q 0) (new : g (s .train) ≡ false) where
+      waiting : Open q (trainAt l (s .train) .message)
+      waiting = rw (w .sent) sent
 
-    pub grant-free : Answers l s q 0
-        → first (requestRows (around (believed l) (s .train)) (trainAt (believed l) (s .train)) q) ≡ 0
-    unfolding around
-    grant-free w =
-        let i = s .train in
-        let r = trainAt l i in
-        let asked : Open q (r .message) = rw (w .sent) sent in
-        let address = addressed-open h i (w .train) q asked in
-        rw (around-quiet believing l i, train-quiet believing, believed-sent _ r q gives (w .sent))
-        (request-free (l .table) (l .routes) i r q address (holding-alike _ (holding q) (message-alike r Idle))
-        (holding-message _ _ (holding q) ∙ message-now r Idle)
-        (recorded-now _ _ (holding q) (address-iff _ r q .0 address .1) ∙ sym gives))
+      pub grant-believed : f (s .train) ≡ true → believed f (afterGrant l (s .train) q) ≡ afterRequest (believed g l) (s .train) q
+      unfolding counted
+      grant-believed done =
+          let i = s .train in
+          let r = trainAt l i in
+          let dropped = recorded-dropped (around l i) (withMessage r Idle) (holding q) (message-recorded _ r Idle (holding q) ∙ h .unrecorded i (w .train) q waiting) in
+          rw (grant-line believes l i same q, around-quiet, box-quiet, open-train (believing g) l i waiting, table-quiet, gives, new, done, dropped)
+
+      pub grant-free : first (requestRows (around (believed g l) (s .train)) (trainAt (believed g l) (s .train)) q) ≡ 0
+      unfolding around counted
+      grant-free =
+          let i = s .train in
+          let r = trainAt l i in
+          let address = addressed-open h i (w .train) q waiting in
+          rw (around-quiet, open-train (believing g) l i waiting, gives, new)
+          (request-free (l .table) (l .routes) i r q address (holding-alike _ (holding q) (message-alike r Idle))
+          (holding-message _ _ (holding q) ∙ message-now r Idle)
+          (recorded-now _ _ (holding q) (address-iff _ r q .0 address .1) ∙ sym gives))

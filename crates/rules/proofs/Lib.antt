@@ -49,13 +49,19 @@ pub mod Clearing
 pub mod Concerned
 -- A line with its trains' messages taken away, as the settled line and the atomic line have it.
 pub mod Settled
--- Kinds 1 to 4, 7 and 8 leave a train where it stands.
+-- Kinds 1 to 4 and 7 to 10 leave a train where it stands.
 pub mod Staying
 -- The invariant holds on the start line of every accepted table.
 pub mod Start
+-- What is kept after an event, and which requests have been granted by it.
+pub mod Kept
 -- What each step is on the settled line and on the atomic one, and what those of a give-back are.
 pub mod SettledSteps
 pub mod GivingSteps
+-- What was granted is answered yes again, and nothing changes.
+pub mod Again
+-- What a box does not have for a train.
+pub mod Unheld
 -- Each step is, on the atomic line, the atomic steps that it adds to the order.
 pub mod Simulates
 -- A box stays sound at a grant, an Enter and a Clear.
@@ -72,6 +78,8 @@ pub mod Checked
 pub mod Occupied
 -- What a train has given back is not its own until it asks for it again.
 pub mod Returned
+-- A request that was granted is answered yes again, and changes the boxes at most once.
+pub mod Repeats
 -- What else holds after every list of steps.
 pub mod Consequences
 -- Steps in a list of bytes, their answers, and runs of a file and steps.

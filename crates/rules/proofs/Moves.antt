@@ -3,6 +3,7 @@ use Prim.Native.Nat.{ℕ, _+_, _-_, _≤_}
 use mathlib.Core.Path.{_≡_, refl, sym, _∙_}
 use mathlib.Core.Logic.{_↔_, Iff·rfl, _≢_}
 use mathlib.Core.Bool.{true, false, false≢true}
+use mathlib.Core.List.{List, [], _∷_}
 use native.Mathlib.Decide.{ℕ-discrete}
 use native.Mathlib.Omega.{arith}
 use Rattle.rules.specs.declared.BoxPlan.{BoxPlan}
@@ -17,14 +18,14 @@ use Rattle.rules.specs.declared.Outcome.{Outcome}
 use Rattle.rules.specs.Rows.{first}
 use Rattle.rules.specs.declared.Around.{Around}
 use Rattle.rules.specs.Line.{boxAt, trainAt, putTrain, setHolder, holding}
-use Rattle.rules.specs.Steps.{Step, grantRows, boxRows, given, freed, granted, entered, sensed, cleared, released}
-use Rattle.rules.specs.History.{Event, _answered_, Place, accepted, moved}
+use Rattle.rules.specs.Steps.{Step, grantRows, boxRows, given, freed, granted, entered, sensed, cleared, released, step}
+use Rattle.rules.specs.History.{Event, _answered_, Place, accepted, moved, lineAfter}
 use Rattle.rules.specs.Safety.{TrainOf, Fixed, placeIn, placeOf}
 use Rattle.rules.proofs.Tests.{facts, not-passed}
 use Rattle.rules.proofs.Frames.{put, Sized, table-put, routes-put, train-put, train-other, box-other, every-train, every-box, train-back, train-alone}
 use Rattle.rules.proofs.StepRows.{lock-grant-iff, granted-each}
 use Rattle.rules.proofs.Settled.{Alike, message-alike, sending-alike, heard-alike}
-use Rattle.rules.proofs.StepKinds.{request-kind, Does, refuses, sends, denies, grants, hears, enters, clears}
+use Rattle.rules.proofs.StepKinds.{request-kind, Does, refuses, sends, denies, grants, hears, retries, enters, clears, does}
 
 -- An event is an accepted step of this kind of train i.
 accepted-move-iff : (kind i : ℕ) (e : Event)
@@ -80,7 +81,7 @@ freed-still v p x (LockAt b) = unmoved refl
 granted-still : (v : Around) (p : BoxPlan) (x : SwitchBox) (q : Request) → first (boxRows v p x q) ≡ 0 → Still x (granted v p x q)
 unfolding boxRows
 granted-still v p x q e =
-    granted-each (Still x) v p x q (λ n. given-still v p x (holding q) (rw n at e)) (λ _ _. freed-still v p x (holding q)) (unmoved refl)
+    granted-each (Still x) v p x q (λ n m. given-still v p x (holding q) (rw (n, m) at e)) (λ _ _. freed-still v p x (holding q)) (unmoved refl)
 
 -- Records of a train that stand alike are at one place.
 pub place-alike : {r x : Train} → Alike r x → placeIn r ≡ placeIn x
@@ -136,6 +137,7 @@ put-back l s o (grants {q} h) =
     both l s 0 _ _ _ (runs-alike (message-alike _ _) _ _ (λ a _ _ _. omega (arith, h .kind))) (granted-still _ _ _ q (h .code))
 put-back l s o (hears {q} {c} h) =
     alone l s c _ (runs-alike (heard-alike _ _ q c) _ _ (λ a _ _ _. omega (arith, h .kind)))
+put-back l s o (retries h) = alone l s 0 _ (runs-alike (message-alike _ _) _ _ (λ _ a _ _. omega (arith, h .low)))
 put-back l s o (enters h) =
     both l s 0 _ _ _ (record { direction = refl; length = refl; place = enters-next _ _ _ (h .kind) refl refl }) (unmoved refl)
 put-back l s o (clears h) =
@@ -191,3 +193,9 @@ module _ {l : Line} {s : Step} {o : Outcome} (d : Does l s o) where
 
   pub other-boxes : (b : ℕ) × ((c : ℕ) → c ≢ b → boxAt (o .line) c ≡ boxAt l c)
   other-boxes = let h = put-back l s o d in (h .box, λ c n. rw (h .line) (box-other l _ _ _ _ n))
+
+-- The table stays after every list of steps.
+pub tables-stay : (l : Line) (steps : List Step) → lineAfter step l steps .table ≡ l .table
+unfolding lineAfter
+tables-stay l [] = refl
+tables-stay l (s ∷ rest) = tables-stay (step l s .line) rest ∙ table-stays (does l s)

@@ -10,7 +10,7 @@ use Rattle.rules.specs.declared.Table.{Table}
 use Rattle.rules.specs.declared.SwitchBox.{SwitchBox}
 use Rattle.rules.specs.declared.Request.{Request}
 use Rattle.rules.specs.declared.Message.{Message}
-use Rattle.rules.specs.declared.Message.the-variants.{Idle, Sent, Answered}
+use Rattle.rules.specs.declared.Message.the-variants.{Idle, Sent, Answered, Lost}
 use Rattle.rules.specs.declared.Train.{Train}
 use Rattle.rules.specs.declared.Line.{Line}
 use Rattle.rules.specs.Rows.{first}
@@ -20,7 +20,7 @@ use Rattle.rules.specs.Line.{aroundTrain, boxAt, trainAt}
 use Rattle.rules.specs.Steps.{mostCovered, addressRows}
 use Rattle.rules.specs.Record.{answerCode, addressFault, messageFault, trainFault, switchBoxFault, trainsFault, switchBoxesFault, recordFault}
 use Rattle.rules.specs.Safety.{TrainOf}
-use Rattle.rules.specs.Invariant.{Open, sent, answered}
+use Rattle.rules.specs.Invariant.{Open, sent, answered, lost}
 use Rattle.rules.proofs.Tests.{facts}
 use Rattle.rules.proofs.Accepted.{Accepted, BoxOf, Routed, any-train-iff, any-box-iff, routed-iff, accepted-iff}
 
@@ -46,6 +46,7 @@ pub data MessageSound (v : Around) (r : Train) : Message → Type 0 where
   silent : MessageSound v r Idle
   onItsWay : {q : Request} → first (addressRows v r q) ≡ 0 → MessageSound v r (Sent q)
   answering : {q : Request} {c : ℕ} → first (addressRows v r q) ≡ 0 → answerCode q c ≡ true → MessageSound v r (Answered q c)
+  missing : {q : Request} → first (addressRows v r q) ≡ 0 → MessageSound v r (Lost q)
 
 message-iff : (v : Around) (r : Train) (g : Message) → (messageFault v r g ≡ false) ↔ MessageSound v r g
 unfolding messageFault addressFault
@@ -58,10 +59,15 @@ message-iff v r (Answered q c) = simp facts (λ (e, f). answering e f, back)
   where
     back : MessageSound v r (Answered q c) → (first (addressRows v r q) ≡ 0) × (answerCode q c ≡ true)
     back (answering e f) = (e, f)
+message-iff v r (Lost q) = simp facts (missing, back)
+  where
+    back : MessageSound v r (Lost q) → first (addressRows v r q) ≡ 0
+    back (missing e) = e
 
 pub open-address : {v : Around} {r : Train} {g : Message} {q : Request} → MessageSound v r g → Open q g → first (addressRows v r q) ≡ 0
 open-address (onItsWay e) sent = e
 open-address (answering e f) answered = e
+open-address (missing e) lost = e
 
 pub record LineSound (l : Line) : Type 0 where
   pub table : Accepted (l .table)

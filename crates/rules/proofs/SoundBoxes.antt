@@ -1,7 +1,7 @@
 -- A box stays sound at a grant, an Enter and a Clear, and its answers have its codes.
 use Prim.Native.Nat.{ℕ, _≤_}
-use mathlib.Core.Path.{_≡_, refl}
-use mathlib.Core.Bool.{true, false, cond}
+use mathlib.Core.Path.{_≡_, refl, sym}
+use mathlib.Core.Bool.{true, false, cond, false≢true}
 use mathlib.Core.List.{List}
 use native.Mathlib.Omega.{arith}
 use lib.Dec.{eqb}
@@ -22,18 +22,24 @@ use Rattle.rules.specs.Record.{answerCode}
 use Rattle.rules.proofs.Tests.{cond-each, EachCode, each-code}
 use Rattle.rules.proofs.Boxes.{position-fits}
 use Rattle.rules.proofs.Sound.{BoxSound}
-use Rattle.rules.proofs.StepRows.{address-iff, lock-address-iff, granted-each}
+use Rattle.rules.proofs.StepRows.{address-iff, lock-address-iff, box-each, granted-each}
 
 -- A box's answer has one of its codes.
 pub answer-code : (v : Around) (p : BoxPlan) (x : SwitchBox) (q : Request) → answerCode q (first (boxRows v p x q)) ≡ true
-unfolding EachCode boxRows grantRows holding givesBack answerCode
-answer-code v p x q = each-code (λ c. answerCode q c ≡ true) (boxRows v p x q) (by q)
+unfolding EachCode grantRows holding givesBack answerCode
+answer-code v p x q = box-each (λ c. answerCode q c ≡ true) v p x q (yes q) (λ n _. each-code (λ c. answerCode q c ≡ true) _ (by q n))
   where
-    by : (q : Request) → EachCode (λ c. answerCode q c ≡ true) (boxRows v p x q)
-    by (Reserve b) = (refl, refl)
-    by (Lock b) = (refl, (refl, (refl, refl)))
-    by (GiveBack b) = refl
-    by (Unlock b) = refl
+    yes : (q : Request) → answerCode q 0 ≡ true
+    yes (Reserve b) = refl
+    yes (Lock b) = refl
+    yes (GiveBack b) = refl
+    yes (Unlock b) = refl
+
+    by : (q : Request) → givesBack q ≡ false → EachCode (λ c. answerCode q c ≡ true) (grantRows v p x (holding q))
+    by (Reserve b) n = (refl, refl)
+    by (Lock b) n = (refl, (refl, (refl, refl)))
+    by (GiveBack b) n = absurd (false≢true (sym n))
+    by (Unlock b) n = absurd (false≢true (sym n))
 
 -- Boxes after a grant, an Enter and a Clear.
 module _ {k : ℕ} {p : BoxPlan} {x : SwitchBox} (h : BoxSound k p x) where
@@ -97,5 +103,5 @@ module _ (t : Table) (routes : List ℕ) (i : ℕ) (r : Train) {k : ℕ} {x : Sw
   pub granted-sound : (q : Request) → BoxSound k (planAt t (requestBox q)) x → first (addressRows (aroundTrain t routes i r) r q) ≡ 0
       → BoxSound k (planAt t (requestBox q)) (granted (aroundTrain t routes i r) (planAt t (requestBox q)) x q)
   granted-sound q h e =
-      granted-each (BoxSound k (planAt t (requestBox q))) _ _ x q (λ _. given-sound q h (address-iff _ r q .0 e .1))
+      granted-each (BoxSound k (planAt t (requestBox q))) _ _ x q (λ _ _. given-sound q h (address-iff _ r q .0 e .1))
       (λ _ _. freed-sound h _ (holding q)) h

@@ -10,14 +10,13 @@ use Rattle.rules.specs.declared.Table.{Table}
 use Rattle.rules.specs.declared.SwitchBox.{SwitchBox}
 use Rattle.rules.specs.declared.Message.the-variants.{Idle}
 use Rattle.rules.specs.declared.Train.{Train}
-use Rattle.rules.specs.declared.Around.{Around}
 use Rattle.rules.specs.Track.{planAt, trainPlanAt, Track, trackOf, farBox}
 use Rattle.rules.specs.Network.{lists}
 use Rattle.rules.specs.Line.{noBox, noTrain, boxAt, trainAt, holderOf, startTrain, startsOn, startHolder, startBoxWith, startBox, startLine}
 use Rattle.rules.specs.Record.{messageFault, recordFault}
 use Rattle.rules.specs.History.{startPlace}
 use Rattle.rules.specs.Safety.{TrainOf, Covers, Crosses, onRoute}
-use Rattle.rules.specs.Invariant.{withTrains, Needs, ahead, crossed, nearRecorded, farRecorded, NeedsLock, crossedPoint, lockRecorded, Fitting, Invariant}
+use Rattle.rules.specs.Invariant.{Granted, Counts, quiet, settling, answered, Needs, ahead, crossed, nearRecorded, farRecorded, NeedsLock, crossedPoint, lockRecorded, Fitting, Invariant}
 use Rattle.rules.proofs.Tests.{facts, not-passed, cond-each}
 use Rattle.rules.proofs.Rows.{filled-length, filled-record, filled-each}
 use Rattle.rules.proofs.Accepted.{Accepted, BoxOf}
@@ -25,7 +24,7 @@ use Rattle.rules.proofs.Boxes.{far-box, far-listed}
 use Rattle.rules.proofs.Frames.{holder-read}
 use Rattle.rules.proofs.Sound.{silent, sound-iff}
 use Rattle.rules.proofs.StepRows.{not-open}
-use Rattle.rules.proofs.Settled.{Quiets, settling, line-quiet}
+use Rattle.rules.proofs.Settled.{line-quiet}
 
 -- The train that a segment is reserved for at the start: one of the trains looked at, or nobody; and the only one of them that
 -- starts there.
@@ -104,8 +103,8 @@ module _ (t : Table) (a : Accepted t) where
   unfolding startTrain
   start-message = each-start-train (λ r. r .message ≡ Idle) (λ i h. refl) refl
 
-  pub quiet-start : {f : Around → Train → Train} → Quiets f → withTrains f (startLine t) ≡ startLine t
-  quiet-start k = line-quiet k (startLine t) start-message
+  pub quiet-start : (n : Counts) → quiet n (startLine t) ≡ startLine t
+  quiet-start n = line-quiet n (startLine t) start-message
 
   start-sensor : (b : ℕ) → boxAt (startLine t) b .sensor ≡ false
   unfolding startBox startBoxWith
@@ -185,13 +184,15 @@ module _ (t : Table) (a : Accepted t) where
         sensedCrossed = λ b e. absurd (false≢true (rw (start-sensor b) at e));
       }
 
-  pub start-invariant : Invariant (startLine t)
+  pub start-invariant : (g : Granted) → Invariant g (startLine t)
   unfolding startLine
-  start-invariant =
+  start-invariant g =
       record {
         boxes = filled-length 96 noBox _;
         trains = filled-length 16 noTrain _;
         sound = start-sound;
         unrecorded = λ i h q o. absurd (not-open (start-message i) o);
-        fitting = rw (quiet-start settling) start-fitting;
+        answers = λ i h q c e. absurd (not-open {q = q} (start-message i) (rw e answered));
+        returned = λ i h q o. absurd (not-open (start-message i) o);
+        fitting = rw (quiet-start (settling g)) start-fitting;
       }

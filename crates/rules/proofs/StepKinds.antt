@@ -12,7 +12,7 @@ use Rattle.rules.specs.declared.SwitchBox.{SwitchBox}
 use Rattle.rules.specs.declared.Request.{Request}
 use Rattle.rules.specs.declared.Request.the-variants.{Reserve, Lock, GiveBack, Unlock}
 use Rattle.rules.specs.declared.Message.{Message}
-use Rattle.rules.specs.declared.Message.the-variants.{Idle, Sent, Answered}
+use Rattle.rules.specs.declared.Message.the-variants.{Idle, Sent, Answered, Lost}
 use Rattle.rules.specs.declared.Train.{Train}
 use Rattle.rules.specs.declared.Line.{Line}
 use Rattle.rules.specs.declared.Effect.{Effect}
@@ -22,19 +22,27 @@ use Rattle.rules.specs.Rows.{Row, first}
 use Rattle.rules.specs.Track.{planAt}
 use Rattle.rules.specs.declared.Around.{Around}
 use Rattle.rules.specs.Line.{around, boxAt, trainAt, putTrain, requestKind, requestBox, messageBox, holding, givesBack, holdingBox}
-use Rattle.rules.specs.Steps.{Step, addressRows, recordRows, apply, unless, sending, send, reply, boxAnswers, trainHears, enter, clear, formed, formRows, stepRows, concernedBox, alone, effect, step, requestRows, boxRows, enterRows, clearRows, withMessage, withHolding, withoutHolding, granted, heard, entered, sensed, cleared, released}
+use Rattle.rules.specs.Steps.{Step, addressRows, recordRows, apply, unless, sending, send, reply, boxAnswers, trainHears, lose, sendAgain, enter, clear, formed, formRows, stepRows, concernedBox, alone, effect, step, requestRows, boxRows, enterRows, clearRows, withMessage, withHolding, withoutHolding, granted, heard, entered, sensed, cleared, released}
 use Rattle.rules.specs.Safety.{TrainOf}
+use Rattle.rules.specs.Invariant.{Open, sent, answered, lost}
 use Rattle.rules.proofs.Tests.{cond-each, EachCode, each-code, outside-false-iff}
 use Rattle.rules.proofs.Steps.{formed-iff, step-row-iff}
 use Rattle.rules.proofs.Frames.{put, train-alone}
 
--- A request is of none of the kinds 3 to 6.
+-- A request is of none of the kinds 3 to 6, nor of one above 8.
 pub request-kind : (q : Request) (kind : ℕ) → 3 ≤ kind → kind ≤ 6 → requestKind q ≢ kind
 unfolding requestKind
 request-kind (Reserve b) kind low high e = omega arith
 request-kind (Lock b) kind low high e = omega arith
 request-kind (GiveBack b) kind low high e = omega arith
 request-kind (Unlock b) kind low high e = omega arith
+
+pub request-most : (q : Request) → requestKind q ≤ 8
+unfolding requestKind
+request-most (Reserve b) = omega arith
+request-most (Lock b) = omega arith
+request-most (GiveBack b) = omega arith
+request-most (Unlock b) = omega arith
 
 -- Kind 1, 2, 7 or 8 sends its request.
 pub record Sends (l : Line) (s : Step) (q : Request) : Type 0 where
@@ -55,6 +63,23 @@ pub record Hears (l : Line) (s : Step) (q : Request) (c : ℕ) : Type 0 where
   pub kind : s .kind ≡ 4
   pub train : TrainOf (l .table) (s .train)
   pub answer : trainAt l (s .train) .message ≡ Answered q c
+
+-- The message has request q, and no answer to it.
+pub data Unanswered (q : Request) : Message → Type 0 where
+  sentAgain : Unanswered q (Sent q)
+  nowLost : Unanswered q (Lost q)
+
+pub unanswered-open : {q : Request} {g : Message} → Unanswered q g → Open q g
+unanswered-open sentAgain = sent
+unanswered-open nowLost = lost
+
+-- Kinds 9 and 10: the open message keeps its request q; it is lost, or under way again.
+pub record Retries (l : Line) (s : Step) (q : Request) (g : Message) : Type 0 where
+  pub low : 9 ≤ s .kind
+  pub high : s .kind ≤ 10
+  pub train : TrainOf (l .table) (s .train)
+  pub waiting : Open q (trainAt l (s .train) .message)
+  pub next : Unanswered q g
 
 pub record Enters (l : Line) (s : Step) : Type 0 where
   pub kind : s .kind ≡ 5
@@ -109,6 +134,7 @@ pub data Does (l : Line) (s : Step) : Outcome → Type 0 where
       → Does l s (record { code = c; line = afterMessage l (s .train) (Answered q c) })
   grants : {q : Request} → Answers l s q 0 → Does l s (record { code = 0; line = afterGrant l (s .train) q })
   hears : {q : Request} {c : ℕ} → Hears l s q c → Does l s (record { code = c; line = afterHearing l (s .train) q c })
+  retries : {q : Request} {g : Message} → Retries l s q g → Does l s (record { code = 0; line = afterMessage l (s .train) g })
   enters : Enters l s → Does l s (record { code = 0; line = afterEnter l (s .train) })
   clears : Clears l s → Does l s (record { code = 0; line = afterClear l (s .train) })
 
@@ -143,15 +169,19 @@ data Known : ℕ → Type 0 where
   clearing : Known 6
   givingBack : Known 7
   unlocking : Known 8
+  losing : Known 9
+  repeating : Known 10
 
 known : (kind box : ℕ) → formed kind box ≡ true → Known kind
 known kind box h =
     ⊎-elim
+    (⊎-elim
     (⊎-elim (λ asks. among kind (asks .0) (omega arith)) (λ plain. among kind (omega arith) (omega arith)))
-    (λ returns. among kind (omega arith) (returns .1))
+    (λ returns. among kind (omega arith) (omega arith)))
+    (λ radio. among kind (omega arith) (omega arith))
     (formed-iff kind box .0 h)
   where
-    among : (kind : ℕ) → 1 ≤ kind → kind ≤ 8 → Known kind
+    among : (kind : ℕ) → 1 ≤ kind → kind ≤ 10 → Known kind
     among zero low high = absurd (omega arith)
     among (suc zero) low high = reserving
     among (suc (suc zero)) low high = locking
@@ -161,7 +191,9 @@ known kind box h =
     among (suc (suc (suc (suc (suc (suc zero)))))) low high = clearing
     among (suc (suc (suc (suc (suc (suc (suc zero))))))) low high = givingBack
     among (suc (suc (suc (suc (suc (suc (suc (suc zero)))))))) low high = unlocking
-    among (suc (suc (suc (suc (suc (suc (suc (suc (suc n))))))))) low high = absurd (omega arith)
+    among (suc (suc (suc (suc (suc (suc (suc (suc (suc zero))))))))) low high = losing
+    among (suc (suc (suc (suc (suc (suc (suc (suc (suc (suc zero)))))))))) low high = repeating
+    among (suc (suc (suc (suc (suc (suc (suc (suc (suc (suc (suc n))))))))))) low high = absurd (omega arith)
 
 -- A step with this effect at box b does one of these.
 record EndsIn (l : Line) (s : Step) (b : ℕ) (e : Effect) : Type 0 where
@@ -201,7 +233,7 @@ module _ (l : Line) (s : Step) where
         → EndsIn l s (requestBox q)
         (reply (around l (s .train)) (trainAt l (s .train)) (planAt (l .table) (requestBox q)) (boxAt l (requestBox q)) q)
     unfolding reply
-    reply-ends q kind sent = go (first (boxRows (around l (s .train)) p x q)) refl
+    reply-ends q kind asked = go (first (boxRows (around l (s .train)) p x q)) refl
       where
         p : BoxPlan
         p = planAt (l .table) (requestBox q)
@@ -213,10 +245,10 @@ module _ (l : Line) (s : Step) where
             : (c : ℕ) → first (boxRows (around l (s .train)) p x q) ≡ c
             → EndsIn l s (requestBox q) (
             Changed c (withMessage (trainAt l (s .train)) (Answered q c)) (cond (eqb c 0) (granted (around l (s .train)) p x q) x))
-        go zero code = both (grants (record { kind = kind; train = train; sent = sent; code = code }))
+        go zero code = both (grants (record { kind = kind; train = train; sent = asked; code = code }))
         go (suc c) code =
             rw eqb·suc-zero
-            (changed _ _ _ (denies (record { kind = kind; train = train; sent = sent; code = code }) (omega arith)))
+            (changed _ _ _ (denies (record { kind = kind; train = train; sent = asked; code = code }) (omega arith)))
 
     answer-ends : (g : Message) → trainAt l (s .train) .message ≡ g → s .kind ≡ 3
         → EndsIn l s (messageBox g)
@@ -225,6 +257,7 @@ module _ (l : Line) (s : Step) where
     answer-ends Idle e kind = refusal 21 (omega arith) (omega arith)
     answer-ends (Sent q) e kind = reply-ends q kind e
     answer-ends (Answered q c) e kind = refusal 21 (omega arith) (omega arith)
+    answer-ends (Lost q) e kind = refusal 21 (omega arith) (omega arith)
 
     -- Kind 4.
     hear-ends : (b : ℕ) (g : Message) → trainAt l (s .train) .message ≡ g → s .kind ≡ 4
@@ -233,6 +266,29 @@ module _ (l : Line) (s : Step) where
     hear-ends b Idle e kind = refusal 21 (omega arith) (omega arith)
     hear-ends b (Sent q) e kind = refusal 21 (omega arith) (omega arith)
     hear-ends b (Answered q c) e kind = changed _ _ _ (hears (record { kind = kind; train = train; answer = e }))
+    hear-ends b (Lost q) e kind = refusal 21 (omega arith) (omega arith)
+
+    -- Kinds 9 and 10.
+    retry-ends : (b : ℕ) {q : Request} {g : Message} → Open q (trainAt l (s .train) .message) → Unanswered q g → 9 ≤ s .kind → s .kind ≤ 10
+        → EndsIn l s b (Changed 0 (withMessage (trainAt l (s .train)) g) (boxAt l b))
+    retry-ends b waiting next low high =
+        changed _ _ _ (retries (record { low = low; high = high; train = train; waiting = waiting; next = next }))
+
+    lose-ends : (b : ℕ) (g : Message) → trainAt l (s .train) .message ≡ g → s .kind ≡ 9
+        → EndsIn l s b (lose (trainAt l (s .train)) (boxAt l b) g)
+    unfolding lose
+    lose-ends b Idle e kind = refusal 30 (omega arith) (omega arith)
+    lose-ends b (Sent q) e kind = retry-ends b (rw e sent) nowLost (omega arith) (omega arith)
+    lose-ends b (Answered q c) e kind = retry-ends b (rw e answered) nowLost (omega arith) (omega arith)
+    lose-ends b (Lost q) e kind = refusal 30 (omega arith) (omega arith)
+
+    again-ends : (b : ℕ) (g : Message) → trainAt l (s .train) .message ≡ g → s .kind ≡ 10
+        → EndsIn l s b (sendAgain (trainAt l (s .train)) (boxAt l b) g)
+    unfolding sendAgain
+    again-ends b Idle e kind = refusal 30 (omega arith) (omega arith)
+    again-ends b (Sent q) e kind = refusal 30 (omega arith) (omega arith)
+    again-ends b (Answered q c) e kind = refusal 30 (omega arith) (omega arith)
+    again-ends b (Lost q) e kind = retry-ends b (rw e lost) sentAgain (omega arith) (omega arith)
 
     -- Kinds 5 and 6.
     enter-ends : s .kind ≡ 5
@@ -264,6 +320,8 @@ module _ (l : Line) (s : Step) where
         by kind e clearing = clear-ends e
         by kind e givingBack = send-ends 0 (GiveBack (s .box)) e refl
         by kind e unlocking = send-ends 0 (Unlock (s .box)) e refl
+        by kind e losing = lose-ends 0 _ refl e
+        by kind e repeating = again-ends 0 _ refl e
 
   -- Every step does one of these.
   pub does : Does l s (step l s)
@@ -284,5 +342,6 @@ is-grant (sends {q} w) kind code = absurd (request-kind q 3 (omega arith) (omega
 is-grant (denies w n) kind code = absurd (n code)
 is-grant (grants {q} w) kind code = (q, (w, refl))
 is-grant (hears w) kind code = absurd (omega (arith, w .kind))
+is-grant (retries w) kind code = absurd (omega (arith, w .low))
 is-grant (enters w) kind code = absurd (omega (arith, w .kind))
 is-grant (clears w) kind code = absurd (omega (arith, w .kind))

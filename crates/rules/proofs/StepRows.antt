@@ -2,7 +2,7 @@
 use Prim.Native.Nat.{ℕ, _≤_, _<_}
 use mathlib.Core.Path.{_≡_, refl, sym, _∙_, ap}
 use mathlib.Core.Logic.{_↔_, Iff·rfl, _≢_}
-use mathlib.Core.Bool.{Bool, true, false, not, _&&_, false≢true}
+use mathlib.Core.Bool.{Bool, true, false, cond, not, _&&_, _||_, false≢true}
 use mathlib.Core.List.{List, [], _∷_}
 use native.Mathlib.Omega.{arith}
 use Rattle.rules.specs.declared.BoxPlan.{BoxPlan}
@@ -12,13 +12,13 @@ use Rattle.rules.specs.declared.Holding.{Holding}
 use Rattle.rules.specs.declared.Holding.the-variants.{NextAt, LockAt}
 use Rattle.rules.specs.declared.Request.{Request}
 use Rattle.rules.specs.declared.Message.{Message}
-use Rattle.rules.specs.declared.Message.the-variants.{Idle, Sent, Answered}
+use Rattle.rules.specs.declared.Message.the-variants.{Idle, Sent, Answered, Lost}
 use Rattle.rules.specs.declared.Train.{Train}
 use Rattle.rules.specs.Rows.{_if_, first}
 use Rattle.rules.specs.declared.Around.{Around}
 use Rattle.rules.specs.Line.{aroundOn, aroundTrain, holderOf, holding, givesBack}
-use Rattle.rules.specs.Steps.{isOpen, addressed, recorded, atEnd, addressRows, recordRows, requestRows, stands, given, freed, granted, enterRows, clearRows, another, grantRows}
-use Rattle.rules.specs.Invariant.{Open, sent, answered}
+use Rattle.rules.specs.Steps.{isOpen, addressed, recorded, atEnd, addressRows, recordRows, requestRows, stands, given, freed, granted, enterRows, clearRows, another, grantRows, boxRows}
+use Rattle.rules.specs.Invariant.{Open, sent, answered, lost}
 use Rattle.rules.proofs.Tests.{facts, cond-each, implies-iff, first-none, first-zero-iff}
 
 -- A holder that is nobody else than train i.
@@ -32,6 +32,7 @@ unfolding isOpen
 closed-iff Idle = (λ _. refl, λ _. refl)
 closed-iff (Sent q) = (λ e. absurd (false≢true (sym e)), λ e. ap isOpen e)
 closed-iff (Answered q c) = (λ e. absurd (false≢true (sym e)), λ e. ap isOpen e)
+closed-iff (Lost q) = (λ e. absurd (false≢true (sym e)), λ e. ap isOpen e)
 
 pub not-open : {q : Request} {g : Message} → g ≡ Idle → Open q g → ⊥
 unfolding isOpen
@@ -40,6 +41,26 @@ not-open {q} {g} e w = false≢true (sym (closed-iff g .1 e) ∙ open-message w)
     open-message : {g : Message} → Open q g → isOpen g ≡ true
     open-message sent = refl
     open-message answered = refl
+    open-message lost = refl
+
+-- Messages of different kinds differ, and an answer has one code.
+pub not-idle : {q : Request} → Idle ≡ Sent q → ⊥
+not-idle e = let z : _≡_ {A = ℕ} 0 1 = cc in omega arith
+
+pub not-answered : {q z : Request} {c : ℕ} → Answered q c ≡ Sent z → ⊥
+not-answered e = let z : _≡_ {A = ℕ} 0 1 = cc in omega arith
+
+pub answered-not-lost : {q z : Request} {c : ℕ} → Answered q c ≡ Lost z → ⊥
+answered-not-lost e = let z : _≡_ {A = ℕ} 0 1 = cc in omega arith
+
+pub same-code : {q z : Request} {c d : ℕ} → Answered q c ≡ Answered z d → c ≡ d
+same-code e = cc
+
+-- An open message has one request.
+pub open-same : {q z : Request} {g : Message} → Open q g → Open z g → q ≡ z
+open-same sent sent = refl
+open-same answered answered = refl
+open-same lost lost = refl
 
 -- Codes 16 and 17: the train has a next, and the request is made at its box.
 pub address-iff : (v : Around) (r : Train) (q : Request)
@@ -115,14 +136,28 @@ lock-grant-iff v p x b =
       λ (unheld, (passive, both)). (unheld, (passive, (both, refl))),
     )
 
+-- A box's answer: yes to a give-back and to what it has for the train already, else by the rows of what is asked for.
+pub box-each : (P : ℕ → Type 0) (v : Around) (p : BoxPlan) (x : SwitchBox) (q : Request)
+    → P 0 → (givesBack q ≡ false → stands v p x (holding q) ≡ false → P (first (grantRows v p x (holding q)))) → P (first (boxRows v p x q))
+unfolding boxRows first
+box-each P v p x q always asked = by (givesBack q) (stands v p x (holding q)) asked
+  where
+    by : (g s : Bool) → (g ≡ false → s ≡ false → P (first (grantRows v p x (holding q))))
+        → P (first (cond (g || s) [] (grantRows v p x (holding q))))
+    by true s asked = always
+    by false true asked = always
+    by false false asked = asked refl refl
+
 -- What holds of a box with what is asked for given to the train, of one with what was the train's freed, and of the box as it was,
 -- holds of it after its yes.
 pub granted-each : (P : SwitchBox → Type 0) (v : Around) (p : BoxPlan) (x : SwitchBox) (q : Request)
-    → (givesBack q ≡ false → P (given v p x (holding q)))
+    → (givesBack q ≡ false → stands v p x (holding q) ≡ false → P (given v p x (holding q)))
     → (givesBack q ≡ true → stands v p x (holding q) ≡ true → P (freed v p x (holding q))) → P x → P (granted v p x q)
 unfolding granted
 granted-each P v p x q asks gives same =
-    cond-each P (givesBack q) _ _ (λ e. cond-each P (stands v p x (holding q)) _ _ (gives e) (λ _. same)) asks
+    cond-each P (givesBack q) _ _
+    (λ e. cond-each P (stands v p x (holding q)) _ _ (gives e) (λ _. same))
+    (λ e. cond-each P (stands v p x (holding q)) _ _ (λ _. same) (asks e))
 
 -- Enter: the train is single, has a next, and has recorded what it needs.
 pub enter-iff : (v : Around) (r : Train)

@@ -22,13 +22,15 @@ use Rattle.rules.proofs.Tests.{facts, or-true-iff, outside-false-iff, f
 -- The kinds that there are.
 pub formed-iff : (kind box : ℕ)
     → (formed kind box ≡ true)
-    ↔ ((((1 ≤ kind) × (kind ≤ 2)) ⊎ (((3 ≤ kind) × (kind ≤ 6)) × (box ≡ 0))) ⊎ ((7 ≤ kind) × (kind ≤ 8)))
+    ↔ (((((1 ≤ kind) × (kind ≤ 2)) ⊎ (((3 ≤ kind) × (kind ≤ 6)) × (box ≡ 0))) ⊎ ((7 ≤ kind) × (kind ≤ 8)))
+    ⊎ (((9 ≤ kind) × (kind ≤ 10)) × (box ≡ 0)))
 unfolding formed
 formed-iff kind box =
     let asks : ((leb 1 kind && leb kind 2) ≡ true) ↔ ((1 ≤ kind) × (kind ≤ 2)) = simp facts Iff·rfl in
     let plain : ((leb 3 kind && leb kind 6 && eqb box 0) ≡ true) ↔ (((3 ≤ kind) × (kind ≤ 6)) × (box ≡ 0)) = simp facts Iff·rfl in
     let returns : ((leb 7 kind && leb kind 8) ≡ true) ↔ ((7 ≤ kind) × (kind ≤ 8)) = simp facts Iff·rfl in
-    or-true-iff _ _ (or-true-iff _ _ asks plain) returns
+    let radio : ((leb 9 kind && leb kind 10 && eqb box 0) ≡ true) ↔ (((9 ≤ kind) × (kind ≤ 10)) × (box ≡ 0)) = simp facts Iff·rfl in
+    or-true-iff _ _ (or-true-iff _ _ (or-true-iff _ _ asks plain) returns) radio
 
 -- Row Step stops nothing: there is such a step, and such a train.
 pub form-row-iff : (kind box : ℕ) → (first (formRows kind box) ≡ 0) ↔ (formed kind box ≡ true)

@@ -1,9 +1,9 @@
 -- Atomic steps (01: whole steps): their order, made from steps and answers alone, and the atomic line (01: whole line), which
 -- takes each granted request whole, give-backs among them. The atomic line is a line whose trains have no messages.
 use Prim.Native.Nat.{ℕ}
-use mathlib.Core.Bool.{Bool, false, cond, not, _&&_, _||_}
+use mathlib.Core.Bool.{Bool, true, false, cond, not, _&&_, _||_}
 use mathlib.Core.List.{List, [], _∷_, _++_, Option·toList}
-use mathlib.Core.Option.{Option, none, some}
+use mathlib.Core.Option.{Option, none, some, Option·elim}
 use lib.Dec.{eqb}
 use Rattle.rules.specs.declared.Request.{Request}
 use Rattle.rules.specs.declared.Request.the-variants.{Reserve, Lock, GiveBack, Unlock}
@@ -19,9 +19,9 @@ use Rattle.rules.specs.Rows.{first}
 use Rattle.rules.specs.Track.{planAt}
 use Rattle.rules.specs.Line.{around, boxAt, trainAt, holding, givesBack}
 use Rattle.rules.specs.Steps.{Step, apply, unless, requestRows, boxRows, granted, withHolding, withoutHolding, enter, clear, concernedBox}
-use Rattle.rules.specs.History.{Event}
+use Rattle.rules.specs.History.{Event, accepted}
 
--- The last request of each train that was answered 0.
+-- The last request of each train that was answered 0, until it is granted.
 abbrev pub Kept : Type 0
 Kept = ℕ → Option Step
 
@@ -30,9 +30,15 @@ isRequest s = eqb (s .kind) 1 || eqb (s .kind) 2 || eqb (s .kind) 7 || eqb (s .k
 
 unfoldable pub keep : Kept → Event → Kept
 keep kept e i =
-    cond (isRequest (e .step) && eqb (e .step .train) i && eqb (e .answer) 0) (some (e .step)) (kept i)
+    cond (isRequest (e .step) && eqb (e .step .train) i && eqb (e .answer) 0) (some (e .step))
+    (cond (accepted 3 i e) none (kept i))
 
--- What an event adds to the order: a grant the request that is kept, whole; an accepted move itself; all else nothing.
+unfoldable pub keptBy : Kept → List Event → Kept
+keptBy kept [] = kept
+keptBy kept (e ∷ rest) = keptBy (keep kept e) rest
+
+-- What an event adds to the order: a grant the request that is kept, whole; an accepted move itself; all else nothing. A request stands
+-- at its first grant: a yes to one that was sent again finds nothing kept.
 unfoldable pub added : Kept → Event → List Step
 added kept e =
     let s = e .step in
@@ -43,9 +49,20 @@ unfoldable pub orderFrom : Kept → List Event → List Step
 orderFrom kept [] = []
 orderFrom kept (e ∷ rest) = added kept e ++ orderFrom (keep kept e) rest
 
--- The order of atomic steps (01: the whole-step order) of a list of events from the start.
+-- The order of atomic steps (01: the whole-step order) of a list of events from the start, where nothing is kept; and what is kept after
+-- it.
+abbrev pub noneKept : Kept
+noneKept i = none
+
 unfoldable pub order : List Event → List Step
-order es = orderFrom (λ i. none) es
+order es = orderFrom noneKept es
+
+abbrev pub keptAfter : List Event → Kept
+keptAfter es = keptBy noneKept es
+
+-- Whether the last request of train i that was answered 0 has been granted, if there is one.
+unfoldable pub isGranted : Kept → ℕ → Bool
+isGranted kept i = Option·elim (kept i) true (λ s. false)
 
 -- An atomic request: kind 1, 2, 7 or 8, then 3 and 4, in one. Where no code of its rows stops it, the box grants it, and the train
 -- records the holding at once, or drops the record of what it gives back.

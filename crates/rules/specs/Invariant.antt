@@ -2,60 +2,76 @@
 -- to it, and of the routes in force.
 use Prim.Native.Nat.{ℕ, _+_, _<_}
 use mathlib.Core.Path.{_≡_}
-use mathlib.Core.Bool.{true, false, cond, _||_}
+use mathlib.Core.Bool.{Bool, true, false, cond, not, _||_}
 use mathlib.Core.List.{List}
+use lib.Dec.{eqb}
 use lib.ListN.{length}
 use Rattle.rules.specs.declared.Table.{Table}
 use Rattle.rules.specs.declared.SwitchBox.{SwitchBox}
+use Rattle.rules.specs.declared.Holding.{Holding}
 use Rattle.rules.specs.declared.Request.{Request}
 use Rattle.rules.specs.declared.Message.{Message}
-use Rattle.rules.specs.declared.Message.the-variants.{Idle, Sent, Answered}
+use Rattle.rules.specs.declared.Message.the-variants.{Idle, Sent, Answered, Lost}
 use Rattle.rules.specs.declared.Train.{Train}
 use Rattle.rules.specs.declared.Line.{Line}
 use Rattle.rules.specs.Rows.{listOf}
 use Rattle.rules.specs.Track.{planAt, routeAt, trackOf, farBox, nearBox, isPoint, joins}
 use Rattle.rules.specs.declared.Around.{Around}
-use Rattle.rules.specs.Line.{around, boxAt, trainAt, holderOf, holding, givesBack}
-use Rattle.rules.specs.Steps.{recorded, withMessage, withHolding, heard}
+use Rattle.rules.specs.Line.{around, boxAt, trainAt, holderOf, holding, givesBack, holdingBox}
+use Rattle.rules.specs.Steps.{recorded, stands, withMessage, withHolding}
 use Rattle.rules.specs.Record.{recordFault}
 use Rattle.rules.specs.Safety.{TrainOf, Covers, Crosses, placeIn, placeOf}
 
--- A train once a yes on its way to it is taken as heard; it has no message.
-unfoldable pub settledBy : Around → Train → Message → Train
-settledBy v r Idle = r
-settledBy v r (Sent q) = withMessage r Idle
-settledBy v r (Answered q c) = heard v r q c
+-- Whether the request of each train's open message has been granted. That is no function of the line, since a yes may be lost.
+abbrev pub Granted : Type 0
+Granted = ℕ → Bool
 
-unfoldable pub settledTrain : Around → Train → Train
-settledTrain v r = settledBy v r (r .message)
+-- Whether what train i's open request is about counts as recorded, by whether the request gives it back.
+abbrev pub Counts : Type 0
+Counts = ℕ → Bool → Bool
 
--- The same, but that what a train gives back counts as recorded until the box has answered: its record on the atomic line.
-unfoldable pub believedBy : Around → Train → Message → Train
-believedBy v r Idle = r
-believedBy v r (Sent q) =
+-- A train with its message taken away, where what the message's request q is about counts as recorded or not.
+unfoldable pub counted : Around → Train → Request → Bool → Train
+counted v r q counts =
     let gone = withMessage r Idle in
-    cond (givesBack q) (withHolding v gone (holding q)) gone
-believedBy v r (Answered q c) = heard v r q c
+    cond counts (withHolding v gone (holding q)) gone
 
-unfoldable pub believedTrain : Around → Train → Train
-believedTrain v r = believedBy v r (r .message)
+unfoldable pub quietBy : Counts → Around → Train → Message → Train
+quietBy counts v r Idle = r
+quietBy counts v r (Sent q) = counted v r q (counts (v .number) (givesBack q))
+quietBy counts v r (Answered q c) = counted v r q (counts (v .number) (givesBack q))
+quietBy counts v r (Lost q) = counted v r q (counts (v .number) (givesBack q))
 
--- The line with every train changed by what stands around it. Its boxes are as they were.
-unfoldable pub withTrains : (Around → Train → Train) → Line → Line
-withTrains f l =
+unfoldable pub quietTrain : Counts → Around → Train → Train
+quietTrain counts v r = quietBy counts v r (r .message)
+
+-- The line with every train's message taken away. Its boxes are as they were.
+unfoldable pub quiet : Counts → Line → Line
+quiet counts l =
     record {
       table = l .table;
       boxes = l .boxes;
-      trains = listOf (length (l .trains)) (λ i. f (around l i) (trainAt l i));
+      trains = listOf (length (l .trains)) (λ i. quietTrain counts (around l i) (trainAt l i));
       routes = l .routes;
     }
 
--- The line with every train settled, and as the atomic line has it.
-abbrev pub settled : Line → Line
-settled = withTrains settledTrain
+-- On the settled line what was asked for and granted counts as recorded, whether or not the yes is heard.
+abbrev pub settling : Granted → Counts
+settling granted i gives = cond gives false (granted i)
 
-abbrev pub believed : Line → Line
-believed = withTrains believedTrain
+abbrev pub settled : Granted → Line → Line
+settled granted = quiet (settling granted)
+
+-- On the atomic line so does what a train gives back, until that is granted.
+abbrev pub believing : Granted → Counts
+believing granted i gives = cond gives (not (granted i)) (granted i)
+
+abbrev pub believed : Granted → Line → Line
+believed granted = quiet (believing granted)
+
+-- Holding z is train i's at its box.
+unfoldable pub heldFor : Line → ℕ → Holding → Bool
+heldFor l i z = stands (around l i) (planAt (l .table) (holdingBox z)) (boxAt l (holdingBox z)) z
 
 -- Train i by its record r, its route in `routes`.
 module _ (t : Table) (routes : List ℕ) (i : ℕ) (r : Train) where
@@ -130,10 +146,11 @@ pub record Fitting (l : Line) : Type 0 where
 pub data Open (q : Request) : Message → Type 0 where
   sent : Open q (Sent q)
   answered : {c : ℕ} → Open q (Answered q c)
+  lost : Open q (Lost q)
 
--- What every step keeps. `unrecorded` and `fitting` are the safety conditions of 02, ticket 11 (code 40), whose form has `withNext`, but
--- for what an answered give-back gave back (`returned`, Consequences). A reservation need not be explained by any train.
-pub record Invariant (l : Line) : Type 0 where
+-- What every step keeps, by which requests have been granted. Where these are the ones with a yes on its way, it has the safety conditions of
+-- 02, ticket 11 (code 40), whose form has `withNext`. A reservation need not be explained by any train.
+pub record Invariant (granted : Granted) (l : Line) : Type 0 where
   -- The record has its 96 boxes and 16 trains, which in a program its type says.
   pub boxes : length (l .boxes) ≡ 96
   pub trains : length (l .trains) ≡ 16
@@ -143,5 +160,12 @@ pub record Invariant (l : Line) : Type 0 where
   pub unrecorded
       : (i : ℕ) → TrainOf (l .table) i → (q : Request) → Open q (trainAt l i .message)
       → recorded (around l i) (trainAt l i) (holding q) ≡ false
-  -- With each yes on its way taken as heard, trains and boxes fit together.
-  pub fitting : Fitting (settled l)
+  -- An answer on its way is a yes exactly where the request has been granted.
+  pub answers
+      : (i : ℕ) → TrainOf (l .table) i → (q : Request) (c : ℕ) → trainAt l i .message ≡ Answered q c → granted i ≡ eqb c 0
+  -- What a train has given back, where that is granted, is not the train's.
+  pub returned
+      : (i : ℕ) → TrainOf (l .table) i → (q : Request) → Open q (trainAt l i .message) → givesBack q ≡ true → granted i ≡ true
+      → heldFor l i (holding q) ≡ false
+  -- With what was granted taken as heard, trains and boxes fit together.
+  pub fitting : Fitting (settled granted l)

@@ -15,7 +15,7 @@ pub mod RouteFault
 pub mod File
 -- The line record, its start, and what stands around a train.
 pub mod Line
--- Steps of kinds 1 to 8, codes 13 to 25 and 29.
+-- Steps of kinds 1 to 10, codes 13 to 25, 29 and 30.
 pub mod Steps
 -- Code 27: the check of a line record.
 pub mod Record

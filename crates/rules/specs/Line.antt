@@ -13,7 +13,7 @@ use Rattle.rules.specs.declared.Holding.the-variants.{NextAt, LockAt}
 use Rattle.rules.specs.declared.Request.{Request}
 use Rattle.rules.specs.declared.Request.the-variants.{Reserve, Lock, GiveBack, Unlock}
 use Rattle.rules.specs.declared.Message.{Message}
-use Rattle.rules.specs.declared.Message.the-variants.{Idle, Sent, Answered}
+use Rattle.rules.specs.declared.Message.the-variants.{Idle, Sent, Answered, Lost}
 use Rattle.rules.specs.declared.Train.{Train}
 use Rattle.rules.specs.declared.Line.{Line}
 use Rattle.rules.specs.declared.Around.{Around}
@@ -50,27 +50,31 @@ requestKind (Unlock b) = 8
 unfoldable pub requestBox : Request → ℕ
 requestBox q = holdingBox (holding q)
 
--- The numbers of a message's cases: its state (0 none, 1 sent, 2 answered), the kind and box of its request, and the answer's
+-- The numbers of a message's cases: its state (0 none, 1 sent, 2 answered, 3 lost), the kind and box of its request, and the answer's
 -- code; 0 for what a case does not have.
 unfoldable pub messageState : Message → ℕ
 messageState Idle = 0
 messageState (Sent q) = 1
 messageState (Answered q c) = 2
+messageState (Lost q) = 3
 
 unfoldable pub messageKind : Message → ℕ
 messageKind Idle = 0
 messageKind (Sent q) = requestKind q
 messageKind (Answered q c) = requestKind q
+messageKind (Lost q) = requestKind q
 
 unfoldable pub messageBox : Message → ℕ
 messageBox Idle = 0
 messageBox (Sent q) = requestBox q
 messageBox (Answered q c) = requestBox q
+messageBox (Lost q) = requestBox q
 
 unfoldable pub messageCode : Message → ℕ
 messageCode Idle = 0
 messageCode (Sent q) = 0
 messageCode (Answered q c) = c
+messageCode (Lost q) = 0
 
 -- What is read where a line has no such record.
 abbrev pub noBox : SwitchBox

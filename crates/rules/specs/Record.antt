@@ -6,7 +6,7 @@ use lib.Dec.{eqb, ltb}
 use Rattle.rules.specs.declared.Request.{Request}
 use Rattle.rules.specs.declared.Request.the-variants.{Reserve, Lock, GiveBack, Unlock}
 use Rattle.rules.specs.declared.Message.{Message}
-use Rattle.rules.specs.declared.Message.the-variants.{Idle, Sent, Answered}
+use Rattle.rules.specs.declared.Message.the-variants.{Idle, Sent, Answered, Lost}
 use Rattle.rules.specs.declared.BoxPlan.{BoxPlan}
 use Rattle.rules.specs.declared.SwitchBox.{SwitchBox}
 use Rattle.rules.specs.declared.Train.{Train}
@@ -35,6 +35,7 @@ unfoldable pub messageFault : Around → Train → Message → Bool
 messageFault v r Idle = false
 messageFault v r (Sent q) = addressFault v r q
 messageFault v r (Answered q c) = addressFault v r q || not (answerCode q c)
+messageFault v r (Lost q) = addressFault v r q
 
 -- Train i with record r, on n segments of a track, where `point` says which boxes are points and `routes` has the routes as they
 -- stand: its route fails 10, 11 or 28; the train is outside its route, its tail included; it covers no segment or more than it may; or

@@ -232,15 +232,11 @@ madeUpCases =
     ∷ checkedTrain (goingBack (Answered (Reserve 2) 0)) (stepOf 4 1 0) 1 gives (0 ∷ 1 ∷ 3 ∷ 1 ∷ 1 ∷ 0 ∷ 1 ∷ replicate 5 0)
     ∷ checked (goingBack Idle) (stepOf 1 1 4) gives (17 ∷ [])
     ∷ checkedBox (goingBack (Sent (Reserve 3))) (stepOf 3 1 0) 3 gives (0 ∷ 0 ∷ 1 ∷ 0 ∷ 2 ∷ 1 ∷ 0 ∷ [])
-    -- The train itself is no other holder; 25 by the front alone, and with the lock the train's own.
-    ∷ checked (asking (Sent (Reserve 2)) 0 1 1) (stepOf 3 1 0) gives (0 ∷ [])
-    ∷ checked (asking (Sent (Lock 2)) 1 1 1) (stepOf 3 1 0) gives (0 ∷ [])
+    -- 25 by the front alone.
     ∷ checked (asking (Sent (Lock 2)) 0 0 1) (stepOf 3 1 0) gives (25 ∷ [])
-    ∷ checked (asking (Sent (Lock 2)) 1 0 1) (stepOf 3 1 0) gives (25 ∷ [])
-    -- 23: the sensor is active, and the lock is free or the train's own, whatever is reserved. Another's lock is 24, before 23 and 25.
-    -- The answer is on its way, and the box is as it was. Heard, it leaves nothing recorded.
+    -- 23: the sensor is active, and the lock is free, whatever is reserved. Another's lock is 24, before 23 and 25. The answer is on its
+    -- way, and the box is as it was. Heard, it leaves nothing recorded.
     ∷ checked (boxSensed (asking (Sent (Lock 2)) 0 1 1)) (stepOf 3 1 0) gives (23 ∷ [])
-    ∷ checked (boxSensed (asking (Sent (Lock 2)) 1 1 1)) (stepOf 3 1 0) gives (23 ∷ [])
     ∷ checked (boxSensed (asking (Sent (Lock 2)) 0 0 0)) (stepOf 3 1 0) gives (23 ∷ [])
     ∷ checked (boxSensed (asking (Sent (Lock 2)) 2 1 1)) (stepOf 3 1 0) gives (24 ∷ [])
     ∷ checked (boxSensed (asking (Sent (Lock 2)) 2 0 0)) (stepOf 3 1 0) gives (24 ∷ [])

@@ -22,12 +22,14 @@ farther = passage ++ asked 1 1 3 ++ asked 1 1 4 ++ asked 2 1 3 ++ (stepOf 5 1 0 
 
 unfoldable pub refusalCases : List Case
 refusalCases =
-    -- 13: kinds 0, 9 and 255, and a box byte in each of the kinds 3 to 6, all before 14.
-    answersTo tableS (stepOf 0 0 0 ∷ stepOf 9 1 0 ∷ stepOf 255 3 0 ∷ []) gives (13 ∷ 13 ∷ 13 ∷ [])
-    ∷ answersTo tableS (stepOf 3 9 1 ∷ stepOf 4 1 1 ∷ stepOf 5 1 255 ∷ stepOf 6 1 1 ∷ []) gives (13 ∷ 13 ∷ 13 ∷ 13 ∷ [])
-    -- 14: trains 0, 3 and 255, in each of the kinds 1 to 6.
-    ∷ answersTo tableS (stepOf 1 0 2 ∷ stepOf 2 3 2 ∷ stepOf 3 3 0 ∷ stepOf 4 0 0 ∷ stepOf 5 3 0 ∷ stepOf 6 255 0 ∷ [])
-    gives (replicate 6 14)
+    -- 13: kinds 0, 11 and 255, and a box byte in each of the kinds 3 to 6, 9 and 10, all before 14.
+    answersTo tableS (stepOf 0 0 0 ∷ stepOf 11 1 0 ∷ stepOf 255 3 0 ∷ []) gives (13 ∷ 13 ∷ 13 ∷ [])
+    ∷ answersTo tableS (stepOf 3 9 1 ∷ stepOf 4 1 1 ∷ stepOf 5 1 255 ∷ stepOf 6 1 1 ∷ stepOf 9 1 1 ∷ stepOf 10 9 2 ∷ [])
+    gives (replicate 6 13)
+    -- 14: trains 0, 3 and 255, in each of the kinds 1 to 6, 9 and 10.
+    ∷ answersTo tableS
+    (stepOf 1 0 2 ∷ stepOf 2 3 2 ∷ stepOf 3 3 0 ∷ stepOf 4 0 0 ∷ stepOf 5 3 0 ∷ stepOf 6 255 0 ∷ stepOf 9 3 0 ∷ stepOf 10 0 0 ∷ [])
+    gives (replicate 8 14)
     -- 15 before 17: a message is open.
     ∷ answersTo tableS (stepOf 1 1 2 ∷ stepOf 1 1 3 ∷ stepOf 2 1 9 ∷ []) gives (0 ∷ 15 ∷ 15 ∷ [])
     -- 16 before 17: no next.

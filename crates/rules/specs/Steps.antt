@@ -11,7 +11,7 @@ use Rattle.rules.specs.declared.Holding.the-variants.{NextAt, LockAt}
 use Rattle.rules.specs.declared.Request.{Request}
 use Rattle.rules.specs.declared.Request.the-variants.{Reserve, Lock, GiveBack, Unlock}
 use Rattle.rules.specs.declared.Message.{Message}
-use Rattle.rules.specs.declared.Message.the-variants.{Idle, Sent, Answered}
+use Rattle.rules.specs.declared.Message.the-variants.{Idle, Sent, Answered, Lost}
 use Rattle.rules.specs.declared.Train.{Train}
 use Rattle.rules.specs.declared.Line.{Line}
 use Rattle.rules.specs.declared.Effect.{Effect}
@@ -82,6 +82,7 @@ unfoldable pub isOpen : Message → Bool
 isOpen Idle = false
 isOpen (Sent q) = true
 isOpen (Answered q c) = true
+isOpen (Lost q) = true
 
 -- A request about the holding may be made at its box. A reservation: at an end of next. A lock: at the box ahead, a point.
 unfoldable pub addressed : Around → Holding → Bool
@@ -132,9 +133,14 @@ grantRows v p x (LockAt b) =
     ∷ 25 if not (eqb (holderOf p x (v .front)) (v .number) && eqb (holderOf p x (v .next)) (v .number))
     ∷ []
 
--- Row Box, for the box of a request: a give-back is always answered yes.
+-- The box has the holding for the train.
+unfoldable pub stands : Around → BoxPlan → SwitchBox → Holding → Bool
+stands v p x (NextAt b) = eqb (holderOf p x (v .next)) (v .number)
+stands v p x (LockAt b) = eqb (x .lock) (v .number)
+
+-- Row Box, for the box of a request: a give-back is always answered yes, and so is what the box has for the train already (02, ticket 5).
 unfoldable pub boxRows : Around → BoxPlan → SwitchBox → Request → List Row
-boxRows v p x q = cond (givesBack q) [] (grantRows v p x (holding q))
+boxRows v p x q = cond (givesBack q || stands v p x (holding q)) [] (grantRows v p x (holding q))
 
 -- The position of a point that joins two segments, one of which is its stem.
 unfoldable pub positionFor : BoxPlan → ℕ → ℕ → ℕ
@@ -164,11 +170,6 @@ lockFreed x =
       right = x .right;
     }
 
--- The box has the holding for the train.
-unfoldable pub stands : Around → BoxPlan → SwitchBox → Holding → Bool
-stands v p x (NextAt b) = eqb (holderOf p x (v .next)) (v .number)
-stands v p x (LockAt b) = eqb (x .lock) (v .number)
-
 -- The box once the train has the holding: the holder of next is set; the lock is given, with the position. And once it is free: next has
 -- no holder; the lock is nobody's, and the position stays.
 unfoldable pub given : Around → BoxPlan → SwitchBox → Holding → SwitchBox
@@ -179,10 +180,12 @@ unfoldable pub freed : Around → BoxPlan → SwitchBox → Holding → SwitchBo
 freed v p x (NextAt b) = setHolder p x (v .next) 0
 freed v p x (LockAt b) = lockFreed x
 
--- The box after its yes: what is asked for is the train's; what is given back is free, if it was the train's.
+-- The box after its yes: what is asked for is the train's, and where it was so already nothing changes, not the position either; what is
+-- given back is free, if it was the train's.
 unfoldable pub granted : Around → BoxPlan → SwitchBox → Request → SwitchBox
 granted v p x q =
-    cond (givesBack q) (cond (stands v p x (holding q)) (freed v p x (holding q)) x) (given v p x (holding q))
+    cond (givesBack q) (cond (stands v p x (holding q)) (freed v p x (holding q)) x)
+    (cond (stands v p x (holding q)) x (given v p x (holding q)))
 
 -- The train after it has recorded the holding, and after it has dropped the record.
 unfoldable pub withHolding : Around → Train → Holding → Train
@@ -237,7 +240,7 @@ unfoldable pub unless : ℕ → Effect → Effect
 unless c e = cond (eqb c 0) e (Refused c)
 
 -- The kinds of steps, each by the train's record r, what stands around it, v, and the plan p and the record x of the box that the
--- step concerns. Kinds 1, 2, 4, 7 and 8 concern none, and hand x through. Kinds 1, 2, 7 and 8: the message is sent, and what is given
+-- step concerns. Kinds 1, 2, 4 and 7 to 10 concern none, and hand x through. Kinds 1, 2, 7 and 8: the message is sent, and what is given
 -- back is no longer recorded.
 unfoldable pub sending : Around → Train → Request → Train
 sending v r q = withMessage (cond (givesBack q) (withoutHolding v r (holding q)) r) (Sent q)
@@ -255,6 +258,7 @@ unfoldable pub boxAnswers : Around → Train → BoxPlan → SwitchBox → Messa
 boxAnswers v r p x Idle = Refused 21
 boxAnswers v r p x (Sent q) = reply v r p x q
 boxAnswers v r p x (Answered q c) = Refused 21
+boxAnswers v r p x (Lost q) = Refused 21
 
 -- The train after it has heard an answer: a yes to what it asked for is recorded, and the message is gone.
 unfoldable pub heard : Around → Train → Request → ℕ → Train
@@ -267,6 +271,20 @@ unfoldable pub trainHears : Around → Train → SwitchBox → Message → Effec
 trainHears v r x Idle = Refused 21
 trainHears v r x (Sent q) = Refused 21
 trainHears v r x (Answered q c) = Changed c (heard v r q c) x
+trainHears v r x (Lost q) = Refused 21
+
+-- Kind 9: what is under way is lost, a request or its answer. Kind 10: the request is sent again.
+unfoldable pub lose : Train → SwitchBox → Message → Effect
+lose r x Idle = Refused 30
+lose r x (Sent q) = Changed 0 (withMessage r (Lost q)) x
+lose r x (Answered q c) = Changed 0 (withMessage r (Lost q)) x
+lose r x (Lost q) = Refused 30
+
+unfoldable pub sendAgain : Train → SwitchBox → Message → Effect
+sendAgain r x Idle = Refused 30
+sendAgain r x (Sent q) = Refused 30
+sendAgain r x (Answered q c) = Refused 30
+sendAgain r x (Lost q) = Changed 0 (withMessage r (Sent q)) x
 
 -- Kind 5, at the box ahead, and kind 6, at the box passed.
 unfoldable pub enter : Around → Train → SwitchBox → Effect
@@ -275,10 +293,13 @@ enter v r x = unless (first (enterRows v r)) (Changed 0 (entered r) (sensed x))
 unfoldable pub clear : Around → Train → BoxPlan → SwitchBox → Effect
 clear v r p x = unless (first (clearRows r)) (Changed 0 (cleared r) (released p x (v .tail) (v .second)))
 
--- There is such a step: kinds 1, 2, 7 and 8 have a box byte, kinds 3 to 6 have none, and there is no other kind.
+-- There is such a step: kinds 1, 2, 7 and 8 have a box byte, kinds 3 to 6, 9 and 10 have none, and there is no other kind.
 unfoldable pub formed : ℕ → ℕ → Bool
 formed kind box =
-    (leb 1 kind && leb kind 2) || (leb 3 kind && leb kind 6 && eqb box 0) || (leb 7 kind && leb kind 8)
+    (leb 1 kind && leb kind 2)
+    || (leb 3 kind && leb kind 6 && eqb box 0)
+    || (leb 7 kind && leb kind 8)
+    || (leb 9 kind && leb kind 10 && eqb box 0)
 
 -- Row Step. Its code 13, which comes before the train is looked for, stands by itself.
 unfoldable pub formRows : ℕ → ℕ → List Row
@@ -292,15 +313,17 @@ unfoldable pub concernedBox : ℕ → Around → Train → ℕ
 concernedBox kind v r =
     cond (eqb kind 3) (messageBox (r .message)) (cond (eqb kind 5) (v .ahead) (cond (eqb kind 6) (v .passed) 0))
 
--- The kinds that are the train's alone, 1, 2, 4, 7 and 8; there is no other.
+-- The kinds that are the train's alone, 1, 2, 4 and 7 to 10; there is no other.
 unfoldable pub alone : ℕ → ℕ → Around → Train → SwitchBox → Effect
 alone kind box v r x =
     cond (eqb kind 1) (send v r x (Reserve box))
     (cond (eqb kind 2) (send v r x (Lock box))
     (cond (eqb kind 4) (trainHears v r x (r .message))
-    (cond (eqb kind 7) (send v r x (GiveBack box)) (cond (eqb kind 8) (send v r x (Unlock box)) (Refused 13)))))
+    (cond (eqb kind 7) (send v r x (GiveBack box))
+    (cond (eqb kind 8) (send v r x (Unlock box))
+    (cond (eqb kind 9) (lose r x (r .message)) (cond (eqb kind 10) (sendAgain r x (r .message)) (Refused 13)))))))
 
--- What a step does, by its kind. That kinds 3 to 6 have no box byte is row Step's affair.
+-- What a step does, by its kind. Which kinds have no box byte is row Step's affair.
 unfoldable pub effect : ℕ → ℕ → Around → Train → BoxPlan → SwitchBox → Effect
 effect kind box v r p x =
     cond (eqb kind 3) (boxAnswers v r p x (r .message))

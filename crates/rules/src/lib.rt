@@ -69,11 +69,13 @@ pub enum Request {
     Unlock(u8),
 }
 
-// A train's one message: none, a request under way to its box, or the box's answer under way back, with its code.
+// A train's one message: none, a request under way to its box, the box's answer under way back, with its code, or a request of which
+// nothing is under way: it was lost, or its answer was.
 pub enum Message {
     Idle,
     Sent(Request),
     Answered(Request, u8),
+    Lost(Request),
 }
 
 // A train on the line: its direction and its route's length as they stand; the place of its front on that route, counted

@@ -91,8 +91,8 @@ fn holds_both(v: Around, p: BoxPlan, x: SwitchBox) -> bool
 fn lock_code(v: Around, p: BoxPlan, x: SwitchBox) -> u8
     ensures { λ c. ⌜ ((b : ℕ) → c ≡ first (grantRows v p x (LockAt b))) ⌝ }
 {
-    let held = another(v.number, x.lock);
-    if held {
+    let locked = another(v.number, x.lock);
+    if locked {
         return 24;
     }
     if x.sensor {
@@ -114,14 +114,28 @@ fn grant_code(v: Around, p: BoxPlan, x: SwitchBox, h: Holding) -> u8
     }
 }
 
-// The box's code for a request: what gives back is always answered yes.
+// The box has it for the train.
+fn stands(v: Around, p: BoxPlan, x: SwitchBox, h: Holding) -> bool
+    ensures { λ z. ⌜ z ≡ stands v p x h ⌝ }
+{
+    match h {
+        Holding::NextAt(_) => holder_of(p, x, v.next) == v.number,
+        Holding::LockAt(_) => x.lock == v.number,
+    }
+}
+
+// The box's code for a request: what gives back is always answered yes, and so is what the box has for the train already.
 pub fn box_code(v: Around, p: BoxPlan, x: SwitchBox, q: Request) -> u8
     ensures { λ c. ⌜ c ≡ first (boxRows v p x q) ⌝ }
 {
     if gives_back(q) {
         return YES;
     }
-    grant_code(v, p, x, holding_of(q))
+    let h = holding_of(q);
+    if stands(v, p, x, h) {
+        return YES;
+    }
+    grant_code(v, p, x, h)
 }
 
 // Segments s and z are y and w, in this order.
@@ -170,16 +184,6 @@ fn unlocked(x: SwitchBox) -> SwitchBox
     y
 }
 
-// The box has it for the train.
-fn stands(v: Around, p: BoxPlan, x: SwitchBox, h: Holding) -> bool
-    ensures { λ z. ⌜ z ≡ stands v p x h ⌝ }
-{
-    match h {
-        Holding::NextAt(_) => holder_of(p, x, v.next) == v.number,
-        Holding::LockAt(_) => x.lock == v.number,
-    }
-}
-
 // The box once it is the train's.
 fn given(v: Around, p: BoxPlan, x: SwitchBox, h: Holding) -> SwitchBox
     ensures { λ y. ⌜ y ≡ given v p x h ⌝ }
@@ -210,6 +214,16 @@ fn taken_back(v: Around, p: BoxPlan, x: SwitchBox, h: Holding) -> SwitchBox
     x
 }
 
+// The box once it is the train's: as it was, if it was so already.
+fn held(v: Around, p: BoxPlan, x: SwitchBox, h: Holding) -> SwitchBox
+    ensures { λ y. ⌜ y ≡ cond (stands v p x h) x (given v p x h) ⌝ }
+{
+    if stands(v, p, x, h) {
+        return x;
+    }
+    given(v, p, x, h)
+}
+
 // The box after its yes.
 pub fn granted(v: Around, p: BoxPlan, x: SwitchBox, q: Request) -> SwitchBox
     ensures { λ y. ⌜ y ≡ granted v p x q ⌝ }
@@ -218,7 +232,7 @@ pub fn granted(v: Around, p: BoxPlan, x: SwitchBox, q: Request) -> SwitchBox
     if gives_back(q) {
         return taken_back(v, p, x, h);
     }
-    given(v, p, x, h)
+    held(v, p, x, h)
 }
 
 // The box that a train has passed: sensor passive, lock free, the reservations of both segments free.

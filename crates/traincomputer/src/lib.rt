@@ -24,6 +24,7 @@ pub fn message_box(message: Message) -> u8
         Message::Idle => 0,
         Message::Sent(q) => request_box(q),
         Message::Answered(q, _) => request_box(q),
+        Message::Lost(q) => request_box(q),
     }
 }
 
@@ -54,7 +55,7 @@ pub fn with_message(r: Train, message: Message) -> Train
     }
 }
 
-// The message is under way.
+// The train waits for an answer.
 fn is_open(message: Message) -> bool
     ensures { λ x. ⌜ x ≡ isOpen message ⌝ }
 {
@@ -62,6 +63,7 @@ fn is_open(message: Message) -> bool
         Message::Idle => false,
         Message::Sent(_) => true,
         Message::Answered(_, _) => true,
+        Message::Lost(_) => true,
     }
 }
 

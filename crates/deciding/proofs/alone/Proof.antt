@@ -15,7 +15,7 @@ use Rattle.rules.specs.declared.Request.the-variants.{GiveBack, Unlock}
 use Rattle.rules.specs.declared.Effect.{Effect}
 use Rattle.rules.specs.declared.Effect.the-variants.{Refused}
 use Rattle.rules.specs.Line.{givesBack}
-use Rattle.rules.specs.Steps.{send, alone}
+use Rattle.rules.specs.Steps.{send, lose, sendAgain, alone}
 use Rattle.deciding.proofs.alone.Statement.{statement}
 use Rattle.deciding.proofs.alone.Tie as tie
 
@@ -29,17 +29,19 @@ sent-back kind at v r x q d low high e f =
     rw (ne-eqb kind 1 (λ z. omega (arith, z)), ne-eqb kind 2 (λ z. omega (arith, z)), ne-eqb kind 4 (λ z. omega (arith, z))) (by (eqb kind 7) refl e)
   where
     by : (b : Bool) → eqb kind 7 ≡ b → q ≡ cond b (GiveBack at) (Unlock at)
-        → d ≡ cond b (send v r x (GiveBack at)) (cond (eqb kind 8) (send v r x (Unlock at)) (Refused 13))
+        → d ≡ cond b (send v r x (GiveBack at))
+        (cond (eqb kind 8) (send v r x (Unlock at))
+        (cond (eqb kind 9) (lose r x (r .message)) (cond (eqb kind 10) (sendAgain r x (r .message)) (Refused 13))))
     by true g h = rw (← h) f
     by false g h = rw (eq-eqb kind 8 (omega (arith, eqb-false kind 7 g)), ← h) f
 
 -- There is no other kind.
 no-other : (kind at : ℕ) (v : Around) (r : Train) (x : SwitchBox)
-    → kind ≢ 1 → kind ≢ 2 → kind ≢ 4 → kind ≢ 7 → kind ≢ 8
+    → kind ≢ 1 → kind ≢ 2 → kind ≢ 4 → kind ≢ 7 → kind ≢ 8 → kind ≢ 9 → kind ≢ 10
     → Refused 13 ≡ alone kind at v r x
 unfolding alone
-no-other kind at v r x one two four seven eight =
-    rw (ne-eqb kind 1 one, ne-eqb kind 2 two, ne-eqb kind 4 four, ne-eqb kind 7 seven, ne-eqb kind 8 eight)
+no-other kind at v r x one two four seven eight nine ten =
+    rw (ne-eqb kind 1 one, ne-eqb kind 2 two, ne-eqb kind 4 four, ne-eqb kind 7 seven, ne-eqb kind 8 eight, ne-eqb kind 9 nine, ne-eqb kind 10 ten)
 
 ask-requires : tie.Need-ask-requires
 unfolding givesBack
@@ -62,17 +64,25 @@ unfolding alone
 returns-3 c = rw (c .before .match .keys3) (c .hear .ensures)
 
 returns-4 : tie.Need-returns-4
-returns-4 c = sent-back _ _ _ _ _ _ _ (omega arith) (omega arith) (c .before .returned .ensures) (c .send .ensures)
+unfolding alone
+returns-4 c = rw (c .before .match .keys4) (c .lose .ensures)
 
 returns-5 : tie.Need-returns-5
-returns-5 c =
-    let others = c .before .match .rest in
-    no-other _ _ _ _ _ (others .0 .0 .1) (others .0 .1) (others .1) (λ z. omega (arith, z)) (λ z. omega (arith, z))
+unfolding alone
+returns-5 c = rw (c .before .match .keys5) (c .send-again .ensures)
 
 returns-6 : tie.Need-returns-6
-returns-6 c =
+returns-6 c = sent-back _ _ _ _ _ _ _ (omega arith) (omega arith) (c .before .returned .ensures) (c .send .ensures)
+
+returns-7 : tie.Need-returns-7
+returns-7 c =
+    let others = c .before .match .rest in
+    no-other _ _ _ _ _ (others .0 .0 .0 .0 .1) (others .0 .0 .0 .1) (others .0 .0 .1) (λ z. omega (arith, z)) (λ z. omega (arith, z)) (others .0 .1) (others .1)
+
+returns-8 : tie.Need-returns-8
+returns-8 c =
     let others = c .before .before .match .rest in
-    no-other _ _ _ _ _ (others .0 .0 .1) (others .0 .1) (others .1) (λ z. omega (arith, z)) (λ z. omega (arith, z))
+    no-other _ _ _ _ _ (others .0 .0 .0 .0 .1) (others .0 .0 .0 .1) (others .0 .0 .1) (λ z. omega (arith, z)) (λ z. omega (arith, z)) (others .0 .1) (others .1)
 
 pub alone-spec : {M : Type 1} → statement M
 alone-spec =
@@ -83,9 +93,13 @@ alone-spec =
     (λ c κs. search needs)
     (λ c κs. search needs)
     (λ c κs. search needs)
+    (λ c κs. search needs)
+    (λ c κs. search needs)
     returns
     returns-2
     returns-3
     returns-4
     returns-5
-    returns-6)
+    returns-6
+    returns-7
+    returns-8)

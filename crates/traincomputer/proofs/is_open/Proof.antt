@@ -16,6 +16,10 @@ returns-3 : tie.Need-returns-3
 unfolding isOpen
 returns-3 c = rw (c .enum-told3 .given .1)
 
+returns-4 : tie.Need-returns-4
+unfolding isOpen
+returns-4 c = rw (c .enum-told4 .given .1)
+
 pub is-open-spec : {M : Type 1} → statement M
 is-open-spec =
     tie.close
@@ -23,6 +27,8 @@ is-open-spec =
     (λ c. search needs)
     (λ c. search needs)
     (λ c. search needs)
+    (λ c. search needs)
     returns
     returns-2
-    returns-3)
+    returns-3
+    returns-4)

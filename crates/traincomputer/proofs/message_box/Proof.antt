@@ -16,6 +16,10 @@ returns-3 : tie.Need-returns-3
 unfolding messageBox
 returns-3 c = rw (c .before .before .message2 .given .1) (c .request-box2 .ensures)
 
+returns-4 : tie.Need-returns-4
+unfolding messageBox
+returns-4 c = rw (c .before .before .message3 .given .1) (c .request-box3 .ensures)
+
 pub message-box-spec : {M : Type 1} → statement M
 message-box-spec =
     tie.close
@@ -25,6 +29,9 @@ message-box-spec =
     (λ c κs. search needs)
     (λ c. search needs)
     (λ c κs. search needs)
+    (λ c. search needs)
+    (λ c κs. search needs)
     returns
     returns-2
-    returns-3)
+    returns-3
+    returns-4)

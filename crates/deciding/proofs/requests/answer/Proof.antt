@@ -17,5 +17,15 @@ returns-3 : tie.Need-returns-3
 unfolding boxAnswers
 returns-3 c = ap (boxAnswers _ _ _ _) (sym (c .enum-told2 .given .1))
 
+returns-4 : tie.Need-returns-4
+unfolding boxAnswers
+returns-4 c = ap (boxAnswers _ _ _ _) (sym (c .enum-told3 .given .1))
+
 pub answer-spec : {M : Type 1} → statement M
-answer-spec = tie.close (tie.spec (λ c. search needs) (λ c. search needs) (λ c κs. search needs) (λ c. search needs) returns returns-2 returns-3)
+answer-spec =
+    tie.close
+    (tie.spec (λ c. search needs) (λ c. search needs) (λ c κs. search needs) (λ c. search needs) (λ c. search needs)
+    returns
+    returns-2
+    returns-3
+    returns-4)

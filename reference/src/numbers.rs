@@ -38,6 +38,7 @@ pub fn message_numbers(message: Message) -> [u8; 4] {
         Message::None => [0; 4],
         Message::Sent(Request { wish, number }) => [1, wish as u8, number, 0],
         Message::Answered(Request { wish, number }, code) => [2, wish as u8, number, code],
+        Message::Lost(Request { wish, number }) => [3, wish as u8, number, 0],
     }
 }
 

@@ -1,0 +1,127 @@
+//! What becomes of messages that are lost and sent again, counted by kind.
+
+use crate::line::{Line, Message, Wish, WISHES};
+use crate::step::Step;
+use std::fmt::{Display, Formatter, Result};
+
+/// What a box finds that answers a message sent again.
+#[derive(Clone, Copy, Debug, PartialEq, Eq)]
+pub enum Found {
+    /// Of a request: what it asks for is granted for the first time. Of a give-back: the box holds it for the train.
+    First,
+    /// Of a request: the box holds it for the train already. Of a give-back: it is free.
+    Done,
+    /// Of a request: a no. Of a give-back: another train has it.
+    Anothers,
+}
+
+/// Counts over lists of steps, each row for a wish.
+#[derive(Clone, Debug, Default)]
+pub struct LostCounts {
+    /// Lost as it was sent, as a yes, as a no.
+    pub lost: [[usize; 3]; 4],
+    /// Sent again.
+    pub again: [usize; 4],
+    /// Answered after it was sent again, by what the box finds.
+    pub found: [[usize; 3]; 4],
+    /// Kinds 9 and 10 that are refused by 30, by the message's state: none, sent, answered, lost.
+    pub refused: [[usize; 4]; 2],
+    /// Whether the message of each train was sent again.
+    repeated: Vec<bool>,
+}
+
+impl LostCounts {
+    /// Another line begins.
+    pub fn start(&mut self) {
+        self.repeated.clear();
+    }
+
+    /// Counts a step with its code, from the line before it.
+    pub fn add(&mut self, line: &Line, [kind, train, _]: Step, code: u8) {
+        let Some(i) = usize::from(train).checked_sub(1).filter(|&i| i < line.trains.len()) else {
+            return;
+        };
+        self.repeated.resize(line.trains.len(), false);
+        let message = line.trains[i].message;
+        match (kind, code, message) {
+            (9 | 10, 30, _) => {
+                let state = match message {
+                    Message::None => 0,
+                    Message::Sent(_) => 1,
+                    Message::Answered(..) => 2,
+                    Message::Lost(_) => 3,
+                };
+                self.refused[usize::from(kind == 10)][state] += 1;
+            }
+            (9, 0, Message::Sent(request)) => self.lost[row(request.wish)][0] += 1,
+            (9, 0, Message::Answered(request, answer)) => self.lost[row(request.wish)][1 + usize::from(answer != 0)] += 1,
+            (10, 0, Message::Lost(request)) => {
+                self.again[row(request.wish)] += 1;
+                self.repeated[i] = true;
+            }
+            (3, 0 | 22..=25, Message::Sent(request)) if self.repeated[i] => {
+                let found = found(line, i, code);
+                self.found[row(request.wish)][found as usize] += 1;
+            }
+            (1 | 2 | 7 | 8, 0, _) => self.repeated[i] = false,
+            _ => {}
+        }
+    }
+
+    /// How many boxes found this of a wish.
+    pub fn count(&self, wish: Wish, what: Found) -> usize {
+        self.found[row(wish)][what as usize]
+    }
+
+    /// The rarest of all that can be: each way to be lost, to be sent again and to be answered then, and each 30. A
+    /// give-back has no no.
+    pub fn fewest(&self) -> usize {
+        let lost = WISHES.into_iter().flat_map(|wish| {
+            let ways = if wish.gives_back() { 2 } else { 3 };
+            self.lost[row(wish)].into_iter().take(ways)
+        });
+        let refused = [self.refused[0][0], self.refused[0][3], self.refused[1][0], self.refused[1][1], self.refused[1][2]];
+        lost.chain(self.again).chain(self.found.into_iter().flatten()).chain(refused).min().unwrap_or(0)
+    }
+
+    /// Messages lost, sent again, and granted again, which were granted before.
+    pub fn sums(&self) -> [usize; 3] {
+        let granted = [Wish::Reservation, Wish::Lock].map(|wish| self.count(wish, Found::Done));
+        [self.lost.iter().flatten().sum(), self.again.iter().sum(), granted.iter().sum()]
+    }
+}
+
+/// What the box finds that answers the sent message of a train with this code.
+fn found(line: &Line, i: usize, code: u8) -> Found {
+    let (Message::Sent(request), me) = (line.trains[i].message, i as u8 + 1) else {
+        return Found::Anothers;
+    };
+    let holder = match request.wish.of_lock() {
+        true => line.box_state(request.number).map_or(0, |state| state.lock),
+        false => line.reservation(line.trains[i].next_segment().unwrap_or(0), request.number),
+    };
+    match (request.wish.gives_back(), holder) {
+        (false, _) if code != 0 => Found::Anothers,
+        (false, holder) if holder == me => Found::Done,
+        (false, _) => Found::First,
+        (true, 0) => Found::Done,
+        (true, holder) if holder == me => Found::First,
+        (true, _) => Found::Anothers,
+    }
+}
+
+fn row(wish: Wish) -> usize {
+    WISHES.iter().position(|&other| other == wish).expect("all wishes are listed")
+}
+
+impl Display for LostCounts {
+    fn fmt(&self, f: &mut Formatter) -> Result {
+        writeln!(f, "kind  lost as sent, as a yes, as a no; sent again; then a request: granted first, granted before,")?;
+        writeln!(f, "      refused; a give-back: freed, free by now, another's by now")?;
+        for (i, wish) in WISHES.into_iter().enumerate() {
+            writeln!(f, "{:4} {:6?} {:6} {:6?}", wish as u8, self.lost[i], self.again[i], self.found[i])?;
+        }
+        let [lose, again] = self.refused;
+        writeln!(f, "30 with no message, sent, answered, lost: kind 9 {lose:?}, kind 10 {again:?}")
+    }
+}

@@ -133,7 +133,7 @@ fn steps_hit_every_code_and_the_demand_holds() {
 }
 
 /// Give-backs of both kinds are sent, answered and heard; what was given back goes to another train, or to the same one
-/// again; and a driver without them has none.
+/// again; and a driver of the kinds 1 to 6 has none.
 #[test]
 fn steps_give_back() {
     let mut seen = [[0; 3]; 2];
@@ -169,9 +169,9 @@ fn steps_give_back() {
                 giver.iter().for_each(|&giver| had[usize::from(giver != i)] += 1);
             }
         }
-        let driver = Driver::without_back(&mut rng);
+        let driver = Driver::of_first_kinds(&mut rng);
         let steps = drive_by(driver, &mut rng, &mut start_line(&table), 200);
-        assert!(steps.iter().all(|([kind, ..], _)| !matches!(kind, 7 | 8)));
+        assert!(steps.iter().all(|([kind, ..], _)| !matches!(kind, 7..=10)));
     }
     assert!(seen.as_flattened().iter().chain(&had).all(|&count| count > 50), "{seen:?} {had:?}");
 }

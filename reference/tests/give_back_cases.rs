@@ -185,11 +185,11 @@ fn while_crossing() {
     assert_eq!(recorded(&line, 0), [true, false, false]);
 }
 
-/// Kinds 9 and above are 13, whatever train and box; a box byte is well formed in kinds 7 and 8, and 14 comes next.
+/// Kinds 11 and above are 13, whatever train and box; a box byte is well formed in kinds 7 and 8, and 14 comes next.
 #[test]
 fn kinds() {
     let table = opposed();
-    for kind in (9..=255).chain([0]) {
+    for kind in (11..=255).chain([0]) {
         walk(&table, &[([kind, 1, 0], 13), ([kind, 1, 2], 13), ([kind, 0, 0], 13)]);
     }
     for number in [0, 2, 255] {

@@ -76,7 +76,7 @@ impl Driver {
                 _ => (self.current, self.heir) = (heir, None),
             }
         }
-        if self.kinds > 8 && rng.chance(self.mix.back[1]) {
+        if self.kinds > 8 && rng.chance(50) {
             if let Some(step) = taking(line) {
                 return step;
             }
@@ -190,14 +190,16 @@ fn to_give_back(line: &Line, train: usize) -> Vec<Step> {
 }
 
 /// A step by which the train gives back what another one needs, if there is
-/// any: next of both, or the lock of the box ahead of both.
+/// any: next of both, or the lock of the box ahead of both. What it has at the
+/// box ahead comes first, so that the other can get the lock.
 fn for_another(line: &Line, train: usize, other: usize) -> Option<Step> {
     let same_next = line.trains[train].next_segment() == line.trains[other].next_segment();
     let needs = needs(line, other);
     let needed = |&[kind, _, number]: &Step| {
         needs.iter().any(|&[need, _, at]| need == kind - 6 && at == number && (need == 2 || same_next))
     };
-    to_give_back(line, train).into_iter().find(|step| other != train && needed(step))
+    let given = to_give_back(line, train).into_iter().filter(|step| other != train && needed(step));
+    given.min_by_key(|&[_, _, number]| number != line.box_ahead(train))
 }
 
 impl Driver {

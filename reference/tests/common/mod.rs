@@ -19,15 +19,14 @@ pub const S: [u8; 46] = [
 
 /// Faults in the steps that no list of steps from the start of an accepted table shows; the first two of them no
 /// made-up record shows either.
-pub const UNSEEN: [Fault; 8] = [
+pub const UNSEEN: [Fault; 7] = [
     Fault::NextBeforeMessage,
     Fault::RecordsKept,
-    Fault::OwnSegmentRefused,
     Fault::SensorNotAsked,
     Fault::ReservationsBeforeSensor,
     Fault::LockNeedsNextOnly,
-    Fault::BackMayBeRefused,
-    Fault::BackFreesAnyone,
+    Fault::RowsBeforeGranted,
+    Fault::RepeatSetsPosition,
 ];
 
 /// Table S with other trains.

@@ -3,38 +3,10 @@
 mod common;
 use common::*;
 use reference::atomic::{atomic_order, WholeLine};
-use reference::demand::Checker;
-use reference::fast;
 use reference::line::*;
 use reference::numbers::{recorded, train_numbers};
 use reference::step::Step;
-use reference::table::{Table, LINK};
-use reference::table_write::file_bytes;
-
-/// Takes steps from the start line on, each with the code beside it, on both engines, with demand 3 checked.
-fn walk(table: &Table, steps: &[(Step, u8)]) -> Line {
-    let mut line = start_line(table);
-    let mut checker = Checker::new(table, &line);
-    let mut quick = fast::Line::NONE;
-    assert_eq!(quick.read(&file_bytes(table)), Ok(()));
-    for &(bytes, code) in steps {
-        go_on(&mut line, &[(bytes, code)]);
-        assert!(checker.observe(bytes, code, &line).is_empty(), "{bytes:?}");
-        assert_eq!(quick.step(bytes), code, "{bytes:?}");
-        assert!(same(&line, &quick), "{bytes:?}");
-    }
-    line
-}
-
-/// Two trains that both want segment 2, from either side.
-fn opposed() -> Table {
-    s_with(&[(0, &[1, 2, 4]), (1, &[4, 2, 1])])
-}
-
-/// Two trains side by side that both want segment 4.
-fn abreast() -> Table {
-    s_with(&[(0, &[2, 4]), (0, &[3, 4])])
-}
+use reference::table::LINK;
 
 /// Train 1 of `abreast` holds all that it needs.
 fn all_held() -> Vec<(Step, u8)> {

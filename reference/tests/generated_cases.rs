@@ -8,6 +8,7 @@ use reference::demand::{check_demand, Clause};
 use reference::fault::{Fault, FAULTS};
 use reference::generate::damage::damaged_file;
 use reference::generate::listing::damaged_listing;
+use reference::generate::lost::LostCounts;
 use reference::generate::made_up::{changes, AIMS};
 use reference::generate::prng::Prng;
 use reference::generate::steps::{drive, drive_by, Driver};
@@ -176,6 +177,26 @@ fn steps_give_back() {
     assert!(seen.as_flattened().iter().chain(&had).all(|&count| count > 50), "{seen:?} {had:?}");
 }
 
+/// Messages of each kind are lost as they are sent and as they are answered, yes and no, and sent again; boxes have
+/// granted them by then or not, and what is given back is another's by then; and 30 comes in each of its ways.
+#[test]
+fn steps_lose_messages() {
+    let mut lost = LostCounts::default();
+    for case in 0..CASES {
+        let mut rng = Prng::for_case(19, case);
+        let mut line = start_line(&accepted_table(&mut rng));
+        let mut driver = Driver::new(&mut rng);
+        lost.start();
+        for _ in 0..2_000 {
+            let bytes = driver.next_step(&mut rng, &line);
+            let watched = lost.watch(&line, bytes);
+            let code = step(&mut line, bytes);
+            lost.add(watched, bytes, code);
+        }
+    }
+    assert!(lost.fewest() > 2, "{lost}");
+}
+
 /// Over all cases of a step fault: what came up in any of them.
 fn any_case(fault: Fault) -> Outcome {
     let mut all = Outcome::default();
@@ -224,6 +245,17 @@ fn clauses_are_broken_by_the_faults_they_stop() {
         (Fault::BackNotOrdered, Clause::OrderStopped),
         (Fault::SensorBeforeLock, Clause::Answered23),
         (Fault::LockFreedAtEnter, Clause::Answered23),
+        (Fault::GrantIsHearing, Clause::OrderStopped),
+        (Fault::BackFreesAnyone, Clause::ReservationDiffers),
+        (Fault::BackFreesAnyone, Clause::RepeatChangesBox),
+        (Fault::LostLetsAsk, Clause::OrderStopped),
+        (Fault::LossForgets, Clause::OrderStopped),
+        (Fault::LossPutsRecordBack, Clause::OrderStopped),
+        (Fault::RepeatOrderedAgain, Clause::OrderStopped),
+        (Fault::RepeatNotOrdered, Clause::ReservationDiffers),
+        (Fault::OwnSegmentRefused, Clause::RepeatRefused),
+        (Fault::OwnLockRefused, Clause::RepeatRefused),
+        (Fault::BackMayBeRefused, Clause::RepeatRefused),
     ] {
         assert!(any_case(fault).broken.has(clause), "{fault:?} {clause:?}");
     }
@@ -240,6 +272,17 @@ fn demand_alone_admits() {
         Fault::OneCodeRefuses,
         Fault::SensorBeforeLock,
         Fault::ReservationsFirst,
+        Fault::AnswersAgain,
+        Fault::OwnSegmentRefused,
+        Fault::OwnLockRefused,
+        Fault::BackMayBeRefused,
+        Fault::LostYesHeard,
+        Fault::LostNoStays,
+        Fault::LostAnswered,
+        Fault::LostLosesAgain,
+        Fault::RepeatUnderWay,
+        Fault::RadioTakesBox,
+        Fault::NothingLostBeforeTrain,
     ] {
         let all = any_case(fault);
         assert!(!all.broken.breaks_demand() && all.answers_differ, "{fault:?}");

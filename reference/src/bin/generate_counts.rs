@@ -66,9 +66,9 @@ fn main() {
             let bytes = driver.next_step(&mut rng, &line);
             let before = message_of(&line, bytes);
             locks.add(&line, bytes);
-            let before_step = line.clone();
+            let watched = lost.watch(&line, bytes);
             let code = step(&mut line, bytes);
-            lost.add(&before_step, bytes, code);
+            lost.add(watched, bytes, code);
             step_codes[code as usize] += 1;
             messages.add(&line, bytes, code, before);
         }

@@ -10,7 +10,7 @@ use reference::generate::lost::LostCounts;
 use reference::generate::prng::Prng;
 use reference::generate::steps::{Driver, Mix};
 use reference::generate::tables::{accepted_table, largest_table};
-use reference::line::{start_line, Message};
+use reference::line::{start_line, TrainState};
 use reference::step::step;
 
 /// Shares of messages that are lost, in percent.
@@ -25,6 +25,7 @@ struct Runs {
     heard: u64,
     entered: u64,
     at_end: u64,
+    trains: u64,
     atomic: u64,
     lost: LostCounts,
     broken: u64,
@@ -32,7 +33,7 @@ struct Runs {
 }
 
 fn main() {
-    let (seed, tables, steps) = (argument(1, 1), argument(2, 300), argument(3, 4000));
+    let (seed, tables, steps) = (argument(1, 1), argument(2, 1000), argument(3, 5000));
     println!("seed {seed}: {tables} tables with {steps} steps each for each share of messages lost");
     let mut broken = 0;
     for share in SHARES {
@@ -65,9 +66,9 @@ fn run(runs: &mut Runs, rng: &mut Prng, case: u64, share: usize, steps: u64) {
     runs.lost.start();
     for _ in 0..steps {
         let bytes = driver.next_step(rng, &line);
-        let before = line.clone();
+        let watched = runs.lost.watch(&line, bytes);
         let answer = step(&mut line, bytes);
-        runs.lost.add(&before, bytes, answer);
+        runs.lost.add(watched, bytes, answer);
         note(checker.observe(bytes, answer, &line));
         runs.steps += 1;
         runs.under_way += u64::from(matches!((bytes[0], answer), (1 | 2 | 7 | 8 | 10, 0) | (3, 0 | 22..=25)));
@@ -75,8 +76,9 @@ fn run(runs: &mut Runs, rng: &mut Prng, case: u64, share: usize, steps: u64) {
         runs.entered += u64::from((bytes[0], answer) == (5, 0));
     }
     runs.atomic += checker.order_length;
-    let at_end = |t: &&reference::line::TrainState| t.next_segment().is_none() && t.message == Message::None;
+    let at_end = |t: &&TrainState| t.next_segment().is_none() && !t.crossing();
     runs.at_end += line.trains.iter().filter(at_end).count() as u64;
+    runs.trains += line.trains.len() as u64;
 }
 
 fn print_runs(runs: &Runs, share: usize) {
@@ -84,7 +86,8 @@ fn print_runs(runs: &Runs, share: usize) {
     let percent = 100.0 * lost as f64 / runs.under_way.max(1) as f64;
     println!("share {share} %: {} steps", runs.steps);
     println!("{} messages under way, {lost} lost ({percent:.1} %), {again} sent again, {} heard", runs.under_way, runs.heard);
-    println!("{granted} granted again, {} atomic steps, {} moves, {} trains at their end", runs.atomic, runs.entered, runs.at_end);
+    println!("{granted} granted again, {} atomic steps, {} segments entered", runs.atomic, runs.entered);
+    println!("{} of {} trains at the end of their route", runs.at_end, runs.trains);
     print!("{}", runs.lost);
     for clause in CLAUSES.into_iter().filter(|&clause| runs.clauses.has(clause)) {
         println!("broken: {clause:?}");

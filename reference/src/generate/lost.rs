@@ -1,6 +1,6 @@
 //! What becomes of messages that are lost and sent again, counted by kind.
 
-use crate::line::{Line, Message, Wish, WISHES};
+use crate::line::{Line, Message, Request, Wish, WISHES};
 use crate::step::Step;
 use std::fmt::{Display, Formatter, Result};
 
@@ -13,6 +13,14 @@ pub enum Found {
     Done,
     /// Of a request: a no. Of a give-back: another train has it.
     Anothers,
+}
+
+/// What a step finds: the train, its message and who holds what the message is about.
+#[derive(Clone, Copy, Debug)]
+pub struct Watched {
+    train: usize,
+    message: Message,
+    holder: u8,
 }
 
 /// Counts over lists of steps, each row for a wish.
@@ -36,13 +44,26 @@ impl LostCounts {
         self.repeated.clear();
     }
 
-    /// Counts a step with its code, from the line before it.
-    pub fn add(&mut self, line: &Line, [kind, train, _]: Step, code: u8) {
-        let Some(i) = usize::from(train).checked_sub(1).filter(|&i| i < line.trains.len()) else {
+    /// What a step finds, looked at before it is taken; `None` where it is of no train.
+    pub fn watch(&self, line: &Line, [_, train, _]: Step) -> Option<Watched> {
+        let train = usize::from(train).checked_sub(1).filter(|&i| i < line.trains.len())?;
+        let t = &line.trains[train];
+        let holder = match t.message {
+            Message::Sent(Request { wish, number }) if wish.of_lock() => line.box_state(number).map_or(0, |b| b.lock),
+            Message::Sent(Request { number, .. }) => line.reservation(t.next_segment().unwrap_or(0), number),
+            _ => 0,
+        };
+        Some(Watched { train, message: t.message, holder })
+    }
+
+    /// Counts a step with its code and what it found.
+    pub fn add(&mut self, watched: Option<Watched>, [kind, ..]: Step, code: u8) {
+        let Some(Watched { train: i, message, holder }) = watched else {
             return;
         };
-        self.repeated.resize(line.trains.len(), false);
-        let message = line.trains[i].message;
+        if self.repeated.len() <= i {
+            self.repeated.resize(i + 1, false);
+        }
         match (kind, code, message) {
             (9 | 10, 30, _) => {
                 let state = match message {
@@ -60,7 +81,7 @@ impl LostCounts {
                 self.repeated[i] = true;
             }
             (3, 0 | 22..=25, Message::Sent(request)) if self.repeated[i] => {
-                let found = found(line, i, code);
+                let found = found(request.wish, holder, i as u8 + 1, code);
                 self.found[row(request.wish)][found as usize] += 1;
             }
             (1 | 2 | 7 | 8, 0, _) => self.repeated[i] = false,
@@ -91,16 +112,9 @@ impl LostCounts {
     }
 }
 
-/// What the box finds that answers the sent message of a train with this code.
-fn found(line: &Line, i: usize, code: u8) -> Found {
-    let (Message::Sent(request), me) = (line.trains[i].message, i as u8 + 1) else {
-        return Found::Anothers;
-    };
-    let holder = match request.wish.of_lock() {
-        true => line.box_state(request.number).map_or(0, |state| state.lock),
-        false => line.reservation(line.trains[i].next_segment().unwrap_or(0), request.number),
-    };
-    match (request.wish.gives_back(), holder) {
+/// What the box finds that answers a train with this code, from who holds what is asked for or given back.
+fn found(wish: Wish, holder: u8, me: u8, code: u8) -> Found {
+    match (wish.gives_back(), holder) {
         (false, _) if code != 0 => Found::Anothers,
         (false, holder) if holder == me => Found::Done,
         (false, _) => Found::First,

@@ -9,7 +9,7 @@ use reference::fault::{Fault, FAULTS};
 use reference::generate::damage::damaged_file;
 use reference::generate::listing::{damaged_listing, ListingCounts};
 use reference::generate::lock_asked::LockCounts;
-use reference::generate::lost::LostCounts;
+use reference::generate::lost::{LostCounts, StateCounts};
 use reference::generate::made_up::{changes, step_on, Aim, AIMS};
 use reference::generate::outside::table_with_steps;
 use reference::generate::prng::Prng;
@@ -75,7 +75,7 @@ fn numbers(line: &fast::Line) -> Vec<u8> {
 struct RecordCounts {
     codes: Counts,
     locks: LockCounts,
-    messages: [[usize; 4]; 4],
+    states: StateCounts,
     lost: [[usize; 2]; 4],
 }
 
@@ -89,11 +89,8 @@ impl RecordCounts {
                 self.lost[row][usize::from(code == 27)] += 1;
             }
         }
-        let Some(train) = line.trains.get(usize::from(bytes[1]).wrapping_sub(1)).filter(|_| code != 27) else {
-            return;
-        };
-        if let Some(row) = [3, 4, 9, 10].iter().position(|&kind| bytes[0] == kind) {
-            self.messages[row][usize::from(message_numbers(train.message)[0])] += 1;
+        if code != 27 {
+            self.states.add(line, bytes);
         }
     }
 }
@@ -261,9 +258,9 @@ fn records() {
     assert_eq!(none.step_checked([0; 3]), 27);
     let mut counts = RecordCounts::default();
     assert!((0..800).all(|case| records_alike(case, Fault::None, &mut counts)));
-    let RecordCounts { codes, locks, messages, lost } = counts;
-    println!("{codes:?}\n{locks}{messages:?} {lost:?}");
-    assert!(messages.as_flattened().iter().all(|&count| count > 30), "{messages:?}");
+    let RecordCounts { codes, locks, states, lost } = counts;
+    println!("{codes:?}\n{locks}{states}{lost:?}");
+    assert!(states.fewest() > 30, "{states}");
     assert!(lost.as_flattened().iter().all(|&count| count > 100), "{lost:?}");
     let seen = |code: usize| code == 27 || step_codes().any(|of_step| of_step == code);
     assert!((0..CODES).all(|code| (codes[code] > 20) == seen(code)), "{codes:?}");

@@ -1,6 +1,7 @@
 //! What becomes of messages that are lost and sent again, counted by kind.
 
 use crate::line::{Line, Message, Request, Wish, WISHES};
+use crate::numbers::message_numbers;
 use crate::step::Step;
 use std::fmt::{Display, Formatter, Result};
 
@@ -65,15 +66,7 @@ impl LostCounts {
             self.repeated.resize(i + 1, false);
         }
         match (kind, code, message) {
-            (9 | 10, 30, _) => {
-                let state = match message {
-                    Message::None => 0,
-                    Message::Sent(_) => 1,
-                    Message::Answered(..) => 2,
-                    Message::Lost(_) => 3,
-                };
-                self.refused[usize::from(kind == 10)][state] += 1;
-            }
+            (9 | 10, 30, _) => self.refused[usize::from(kind == 10)][usize::from(message_numbers(message)[0])] += 1,
             (9, 0, Message::Sent(request)) => self.lost[row(request.wish)][0] += 1,
             (9, 0, Message::Answered(request, answer)) => self.lost[row(request.wish)][1 + usize::from(answer != 0)] += 1,
             (10, 0, Message::Lost(request)) => {
@@ -121,6 +114,35 @@ fn found(wish: Wish, holder: u8, me: u8, code: u8) -> Found {
         (true, 0) => Found::Done,
         (true, holder) if holder == me => Found::First,
         (true, _) => Found::Anothers,
+    }
+}
+
+/// The kinds of steps that are about a message under way or lost.
+const KINDS: [u8; 4] = [3, 4, 9, 10];
+
+/// How often steps of these kinds meet a message of each state: none, sent, answered, lost.
+#[derive(Clone, Copy, Debug, Default)]
+pub struct StateCounts([[usize; 4]; 4]);
+
+impl StateCounts {
+    /// Counts a step on a line, if it is one of these, of a train that there is and with no box byte.
+    pub fn add(&mut self, line: &Line, [kind, train, number]: Step) {
+        let train = line.trains.get(usize::from(train).wrapping_sub(1)).filter(|_| number == 0);
+        if let (Some(train), Some(row)) = (train, KINDS.iter().position(|&other| other == kind)) {
+            self.0[row][usize::from(message_numbers(train.message)[0])] += 1;
+        }
+    }
+
+    /// How often the rarest comes.
+    pub fn fewest(&self) -> usize {
+        self.0.into_iter().flatten().min().unwrap_or(0)
+    }
+}
+
+impl Display for StateCounts {
+    fn fmt(&self, f: &mut Formatter) -> Result {
+        writeln!(f, "steps with no message, one sent, answered, lost")?;
+        KINDS.into_iter().zip(self.0).try_for_each(|(kind, counts)| writeln!(f, "kind {kind:2} {counts:6?}"))
     }
 }
 

@@ -32,7 +32,7 @@ pub fn recorded(line: &Line, i: usize) -> [bool; 3] {
     }
 }
 
-/// State, kind, box and code of a message.
+/// State (0 none, 1 sent, 2 answered, 3 lost), kind, box and code of a message.
 pub fn message_numbers(message: Message) -> [u8; 4] {
     match message {
         Message::None => [0; 4],

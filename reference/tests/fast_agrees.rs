@@ -9,7 +9,7 @@ use reference::fault::{Fault, FAULTS};
 use reference::generate::damage::damaged_file;
 use reference::generate::listing::{damaged_listing, ListingCounts};
 use reference::generate::lock_asked::LockCounts;
-use reference::generate::lost::{LostCounts, StateCounts};
+use reference::generate::lost::{LostCounts, StateCounts, Watched};
 use reference::generate::made_up::{changes, step_on, Aim, AIMS};
 use reference::generate::outside::table_with_steps;
 use reference::generate::prng::Prng;
@@ -210,7 +210,7 @@ fn count_lost(lost: &mut LostCounts, table: &Table, steps: &[u8]) {
     lost.start();
     for bytes in steps.chunks_exact(3) {
         let bytes: Step = bytes.try_into().expect("a step has three bytes");
-        let watched = lost.watch(&line, bytes);
+        let watched = Watched::of(&line, bytes);
         let code = step(&mut line, bytes);
         lost.add(watched, bytes, code);
     }

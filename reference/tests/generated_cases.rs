@@ -8,7 +8,7 @@ use reference::demand::{check_demand, Clause};
 use reference::fault::{Fault, FAULTS};
 use reference::generate::damage::damaged_file;
 use reference::generate::listing::damaged_listing;
-use reference::generate::lost::LostCounts;
+use reference::generate::lost::{LostCounts, Watched};
 use reference::generate::made_up::{changes, AIMS};
 use reference::generate::prng::Prng;
 use reference::generate::steps::{drive, drive_by, Driver};
@@ -189,7 +189,7 @@ fn steps_lose_messages() {
         lost.start();
         for _ in 0..2_000 {
             let bytes = driver.next_step(&mut rng, &line);
-            let watched = lost.watch(&line, bytes);
+            let watched = Watched::of(&line, bytes);
             let code = step(&mut line, bytes);
             lost.add(watched, bytes, code);
         }

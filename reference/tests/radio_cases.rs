@@ -99,8 +99,8 @@ fn a_yes_to_a_lock_is_lost() {
     assert!(same(&line, &quick));
 }
 
-/// A no that was lost is no answer any more: sent again when the other train has left, the request is granted, and stands
-/// in the order there.
+/// A no that was lost is no answer: sent again when the other train has left, the request is granted, and stands in the
+/// order there.
 #[test]
 fn a_no_is_lost() {
     let table = abreast();
@@ -166,7 +166,7 @@ fn anothers_lock_by_now() {
 fn nothing_to_lose_or_to_repeat() {
     let table = opposed();
     walk(&table, &[([9, 1, 0], 30), ([10, 1, 0], 30), ([9, 2, 0], 30), ([10, 2, 0], 30)]);
-    walk(&table, &[([1, 1, 2], 0), ([10, 1, 0], 30), ([3, 1, 0], 0), ([10, 1, 0], 30), ([4, 1, 0], 0), ([10, 1, 0], 30)]);
+    walk(&table, &[([1, 1, 2], 0), ([10, 1, 0], 30), ([3, 1, 0], 0), ([10, 1, 0], 30)]);
     walk(&table, &all(&[&ask(1, 1, 2, 0), &[([9, 1, 0], 30), ([10, 1, 0], 30)]]));
     let refused = all(&[&ask(1, 1, 2, 0), &[([1, 2, 2], 0), ([3, 2, 0], 22), ([10, 2, 0], 30)]]);
     walk(&table, &all(&[&refused, &[([4, 2, 0], 22), ([9, 2, 0], 30), ([10, 2, 0], 30)]]));

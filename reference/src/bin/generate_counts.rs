@@ -9,7 +9,7 @@ use reference::counts::{print_codes, CODES};
 use reference::generate::damage::damaged_file;
 use reference::generate::listing::{damaged_listing, ListingCounts};
 use reference::generate::lock_asked::LockCounts;
-use reference::generate::lost::LostCounts;
+use reference::generate::lost::{LostCounts, Watched};
 use reference::generate::prng::Prng;
 use reference::generate::steps::Driver;
 use reference::generate::tables::{accepted_table, largest_table};
@@ -66,7 +66,7 @@ fn main() {
             let bytes = driver.next_step(&mut rng, &line);
             let before = message_of(&line, bytes);
             locks.add(&line, bytes);
-            let watched = lost.watch(&line, bytes);
+            let watched = Watched::of(&line, bytes);
             let code = step(&mut line, bytes);
             lost.add(watched, bytes, code);
             step_codes[code as usize] += 1;

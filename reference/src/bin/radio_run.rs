@@ -6,7 +6,7 @@
 
 use reference::argument::argument;
 use reference::demand::{Checker, Clauses, CLAUSES};
-use reference::generate::lost::LostCounts;
+use reference::generate::lost::{LostCounts, Watched};
 use reference::generate::prng::Prng;
 use reference::generate::steps::{Driver, Mix};
 use reference::generate::tables::{accepted_table, largest_table};
@@ -66,7 +66,7 @@ fn run(runs: &mut Runs, rng: &mut Prng, case: u64, share: usize, steps: u64) {
     runs.lost.start();
     for _ in 0..steps {
         let bytes = driver.next_step(rng, &line);
-        let watched = runs.lost.watch(&line, bytes);
+        let watched = Watched::of(&line, bytes);
         let answer = step(&mut line, bytes);
         runs.lost.add(watched, bytes, answer);
         note(checker.observe(bytes, answer, &line));
@@ -85,7 +85,8 @@ fn print_runs(runs: &Runs, share: usize) {
     let [lost, again, granted] = runs.lost.sums();
     let percent = 100.0 * lost as f64 / runs.under_way.max(1) as f64;
     println!("share {share} %: {} steps", runs.steps);
-    println!("{} messages under way, {lost} lost ({percent:.1} %), {again} sent again, {} heard", runs.under_way, runs.heard);
+    println!("{} messages under way, {lost} of them lost ({percent:.1} %)", runs.under_way);
+    println!("{again} sent again, {} answers heard", runs.heard);
     println!("{granted} granted again, {} atomic steps, {} segments entered", runs.atomic, runs.entered);
     println!("{} of {} trains at the end of their route", runs.at_end, runs.trains);
     print!("{}", runs.lost);

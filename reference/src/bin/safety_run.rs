@@ -7,7 +7,7 @@ use reference::argument::argument;
 use reference::counts::refuses_step;
 use reference::demand::{Checker, Clause, Clauses, CLAUSES};
 use reference::generate::lock_asked::LockCounts;
-use reference::generate::lost::LostCounts;
+use reference::generate::lost::{LostCounts, Watched};
 use reference::generate::prng::Prng;
 use reference::generate::steps::Driver;
 use reference::generate::tables::{accepted_table, largest_table};
@@ -48,7 +48,7 @@ fn main() {
             // refused step must leave it as it was.
             let sample = (i % 16 == 0).then(|| line.clone());
             locks.add(&line, bytes);
-            let watched = lost.watch(&line, bytes);
+            let watched = Watched::of(&line, bytes);
             let answer = step(&mut line, bytes);
             lost.add(watched, bytes, answer);
             entered += u64::from(bytes[0] == 5 && answer == 0);

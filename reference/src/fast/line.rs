@@ -24,7 +24,7 @@ pub enum State {
     Lost,
 }
 
-/// The one message of a train; where it is none, the rest plays no part. The code is 0 unless it is answered.
+/// The one message of a train; where it is none, the rest plays no part. The code is 0 where it is sent or lost.
 #[derive(Clone, Copy, Debug)]
 pub struct Message {
     pub state: State,

@@ -24,6 +24,20 @@ pub struct Watched {
     holder: u8,
 }
 
+impl Watched {
+    /// What a step finds, looked at before it is taken; `None` where it is of no train.
+    pub fn of(line: &Line, [_, train, _]: Step) -> Option<Watched> {
+        let train = usize::from(train).checked_sub(1).filter(|&i| i < line.trains.len())?;
+        let t = &line.trains[train];
+        let holder = match t.message {
+            Message::Sent(Request { wish, number }) if wish.of_lock() => line.box_state(number).map_or(0, |b| b.lock),
+            Message::Sent(Request { number, .. }) => line.reservation(t.next_segment().unwrap_or(0), number),
+            _ => 0,
+        };
+        Some(Watched { train, message: t.message, holder })
+    }
+}
+
 /// Counts over lists of steps, each row for a wish.
 #[derive(Clone, Debug, Default)]
 pub struct LostCounts {
@@ -45,18 +59,6 @@ impl LostCounts {
         self.repeated.clear();
     }
 
-    /// What a step finds, looked at before it is taken; `None` where it is of no train.
-    pub fn watch(&self, line: &Line, [_, train, _]: Step) -> Option<Watched> {
-        let train = usize::from(train).checked_sub(1).filter(|&i| i < line.trains.len())?;
-        let t = &line.trains[train];
-        let holder = match t.message {
-            Message::Sent(Request { wish, number }) if wish.of_lock() => line.box_state(number).map_or(0, |b| b.lock),
-            Message::Sent(Request { number, .. }) => line.reservation(t.next_segment().unwrap_or(0), number),
-            _ => 0,
-        };
-        Some(Watched { train, message: t.message, holder })
-    }
-
     /// Counts a step with its code and what it found.
     pub fn add(&mut self, watched: Option<Watched>, [kind, ..]: Step, code: u8) {
         let Some(Watched { train: i, message, holder }) = watched else {
@@ -68,7 +70,9 @@ impl LostCounts {
         match (kind, code, message) {
             (9 | 10, 30, _) => self.refused[usize::from(kind == 10)][usize::from(message_numbers(message)[0])] += 1,
             (9, 0, Message::Sent(request)) => self.lost[row(request.wish)][0] += 1,
-            (9, 0, Message::Answered(request, answer)) => self.lost[row(request.wish)][1 + usize::from(answer != 0)] += 1,
+            (9, 0, Message::Answered(request, answer)) => {
+                self.lost[row(request.wish)][1 + usize::from(answer != 0)] += 1;
+            }
             (10, 0, Message::Lost(request)) => {
                 self.again[row(request.wish)] += 1;
                 self.repeated[i] = true;
@@ -94,7 +98,8 @@ impl LostCounts {
             let ways = if wish.gives_back() { 2 } else { 3 };
             self.lost[row(wish)].into_iter().take(ways)
         });
-        let refused = [self.refused[0][0], self.refused[0][3], self.refused[1][0], self.refused[1][1], self.refused[1][2]];
+        let [lose, again] = self.refused;
+        let refused = [lose[0], lose[3], again[0], again[1], again[2]];
         lost.chain(self.again).chain(self.found.into_iter().flatten()).chain(refused).min().unwrap_or(0)
     }
 
@@ -152,8 +157,8 @@ fn row(wish: Wish) -> usize {
 
 impl Display for LostCounts {
     fn fmt(&self, f: &mut Formatter) -> Result {
-        writeln!(f, "kind  lost as sent, as a yes, as a no; sent again; then a request: granted first, granted before,")?;
-        writeln!(f, "      refused; a give-back: freed, free by now, another's by now")?;
+        writeln!(f, "kind  lost as sent, as a yes, as a no; sent again; then of a request: granted first,")?;
+        writeln!(f, "      granted before, refused; of a give-back: freed, free by now, another's by now")?;
         for (i, wish) in WISHES.into_iter().enumerate() {
             writeln!(f, "{:4} {:6?} {:6} {:6?}", wish as u8, self.lost[i], self.again[i], self.found[i])?;
         }

@@ -221,7 +221,9 @@ fn fits(line: &Line, i: usize, aim: Aim) -> bool {
         Aim::CoversThree => idle && train.route.len() >= 3,
         Aim::WrongBox | Aim::AnswerCode | Aim::BackWrongBox(_) | Aim::BackCode(_) => train.next_segment().is_some(),
         Aim::LostWrongBox | Aim::ReservedAsked | Aim::BackOfNone(7) | Aim::LostWaits => train.next_segment().is_some(),
-        Aim::LockAsked | Aim::LockHeard(_) | Aim::BackOfNone(_) => ends_of_next(line, i).is_some_and(|(.., ahead)| is_point(line, ahead)),
+        Aim::LockAsked | Aim::LockHeard(_) | Aim::BackOfNone(_) => {
+            ends_of_next(line, i).is_some_and(|(.., ahead)| is_point(line, ahead))
+        }
         _ => true,
     }
 }
@@ -303,8 +305,8 @@ fn train_changes(rng: &mut Prng, line: &Line, i: usize, aim: Aim) -> Vec<Change>
     }
 }
 
-/// The train has such a message, about the lock of the box ahead only where that is a point, and the box holds what it is
-/// about for one of these.
+/// The train has such a message, about the lock of the box ahead only where that is a point, and the box holds what it
+/// is about for one of these.
 fn held_message(rng: &mut Prng, line: &Line, i: usize, wish: Wish, stage: Stage, holders: &[u8]) -> Vec<Change> {
     let Some((next, near, far, ahead)) = ends_of_next(line, i) else {
         return vec![];

@@ -3,7 +3,7 @@
 use reference::counts::Counts;
 use reference::generate::listing::ListingCounts;
 use reference::generate::lock_asked::LockCounts;
-use reference::generate::lost::{LostCounts, StateCounts};
+use reference::generate::lost::{LostCounts, StateCounts, Watched};
 use reference::generate::made_up::{Aim, AIMS};
 use reference::line::{start_line, Line};
 use reference::line_check::record_code;
@@ -53,7 +53,7 @@ pub struct Corpus {
     /// What boxes find that answer a lock, in lists and on made-up records.
     pub list_locks: LockCounts,
     pub made_up_locks: LockCounts,
-    /// What becomes of lost messages in lists, and what message the steps of kinds 3, 4, 9 and 10 find on made-up records.
+    /// What becomes of lost messages in lists; what message the steps of kinds 3, 4, 9 and 10 meet on made-up records.
     pub lost: LostCounts,
     pub made_up_states: StateCounts,
     /// How many made-up records have each aim.
@@ -182,7 +182,7 @@ fn run_steps(table: &Table, steps: &[u8], locks: &mut LockCounts, lost: &mut Los
     let answer = |bytes: &[u8]| match bytes.try_into() {
         Ok(whole) => {
             locks.add(&line, whole);
-            let watched = lost.watch(&line, whole);
+            let watched = Watched::of(&line, whole);
             let code = step(&mut line, whole);
             lost.add(watched, whole, code);
             code

@@ -118,7 +118,11 @@ pub fn records(corpus: &mut Corpus) {
     }
     // A lock that the train has already is a yes before any check, and the position stays.
     let lock = [b'm', 0, 2, 2];
-    for found in [vec![sensor], vec![front(0)], vec![front(2)], vec![next(0)], vec![next(2)], vec![sensor, front(2), next(2)]] {
+    for holder in [0, 2] {
+        passing(corpus, &[lock, locked(1), turned, front(holder)], one(3));
+        passing(corpus, &[lock, locked(1), turned, next(holder)], one(3));
+    }
+    for found in [vec![sensor], vec![sensor, front(2), next(2)]] {
         passing(corpus, &[&[lock, locked(1), turned], &found[..]].concat(), one(3));
     }
     passing(corpus, &[lock, locked(1), turned, next(1)], one(3));

@@ -29,18 +29,26 @@ pub struct List {
 }
 
 impl Case {
-    /// Steps as the generator's driver takes them, with no kinds 7 and 8: a library that lacks these has the same codes.
+    /// Steps as the generator's driver takes them, with no kinds 7 to 10: a library that lacks these has the same codes.
     fn driven(name: String, table: Table) -> Case {
         Case::new(name, table, |rng, table| {
-            let driver = Driver::without_back(rng);
+            let driver = Driver::of_first_kinds(rng);
             drive_by(driver, rng, &mut start_line(table), STEPS)
         })
     }
 
-    /// Steps of a driver that gives back much of what it has.
+    /// Steps of a driver that gives back much of what it has, with no kinds 9 and 10.
     fn giving_back(name: String, table: Table) -> Case {
         Case::new(name, table, |rng, table| {
-            let driver = Driver::of(Mix { purposeful: 85, impatient: 13, back: [20, 40] });
+            let driver = Driver::of(Mix { purposeful: 85, impatient: 13, back: [20, 40], lost: 0 });
+            drive_by(driver, rng, &mut start_line(table), STEPS)
+        })
+    }
+
+    /// Steps of a driver that loses a third of all messages, and sends them again.
+    fn losing(name: String, table: Table) -> Case {
+        Case::new(name, table, |rng, table| {
+            let driver = Driver::of(Mix { purposeful: 85, impatient: 13, back: [5, 10], lost: 33 });
             drive_by(driver, rng, &mut start_line(table), STEPS)
         })
     }
@@ -82,6 +90,11 @@ pub fn largest_giving_back() -> Case {
     Case::giving_back("largest, giving back".to_string(), largest_table(&mut Prng::for_case(0, 0)))
 }
 
+/// The largest table of seed 0, with messages lost and sent again.
+pub fn largest_losing() -> Case {
+    Case::losing("largest, losing".to_string(), largest_table(&mut Prng::for_case(0, 0)))
+}
+
 /// As many boxes as there can be, and as many points as these can have: a border has one segment end, a point three, and 96
 /// segments have 192.
 pub fn points() -> Case {
@@ -93,12 +106,12 @@ pub fn points() -> Case {
     Case::driven("96 boxes, 48 points".to_string(), table)
 }
 
-/// Each step three random bytes, kinds 7 and 8 with 128 more in their place.
+/// Each step three random bytes, kinds 7 to 10 with 128 more in their place.
 pub fn random_bytes() -> Case {
     Case::new("random bytes".to_string(), largest_table(&mut Prng::for_case(0, 0)), |rng, table| {
         let mut line = start_line(table);
         let mut one = || match [0; 3].map(|_| rng.byte()) {
-            [kind @ (7 | 8), train, number] => [kind + 128, train, number],
+            [kind @ 7..=10, train, number] => [kind + 128, train, number],
             bytes => bytes,
         };
         (0..STEPS).map(|_| one()).map(|bytes| (bytes, step(&mut line, bytes))).collect()
@@ -106,12 +119,12 @@ pub fn random_bytes() -> Case {
 }
 
 /// Table S, with steps of a driver and of waiting trains; the largest tables that the generator makes; one of them with
-/// give-backs among the steps, and with random bytes for steps; the most boxes with the most points; the longest single track, its
+/// give-backs among the steps, with messages lost, and with random bytes for steps; the most boxes with the most points; the longest single track, its
 /// segments numbered in three ways; tables of growing n and m with few trains, and of growing k.
 pub fn all() -> Vec<Case> {
     let mut all = vec![table_s(), waiting()];
     all.extend((0..4).map(largest));
-    all.extend([largest_giving_back(), random_bytes(), points()]);
+    all.extend([largest_giving_back(), largest_losing(), random_bytes(), points()]);
     let mut numbers: Vec<u8> = (1..=95).collect();
     all.push(Case::driven("track in order".to_string(), track(&numbers)));
     numbers.reverse();

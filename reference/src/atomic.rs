@@ -42,11 +42,19 @@ pub fn fold_place(places: &mut [Place], [kind, train, _]: Step, answer: u8) {
     }
 }
 
-/// Makes the order of atomic steps. Per train byte it keeps the last
-/// request or give-back answered 0.
+/// The last request or give-back of a train byte that was answered 0, and
+/// whether its box has said yes to it.
+#[derive(Clone, Copy, Debug, PartialEq, Eq, Hash)]
+pub struct Kept {
+    pub step: Step,
+    pub granted: bool,
+}
+
+/// Makes the order of atomic steps. It keeps one request or give-back per
+/// train byte, which stands in the order at its first grant.
 #[derive(Clone, Debug)]
 pub struct OrderMaker {
-    last: Vec<Option<Step>>,
+    last: Vec<Option<Kept>>,
     fault: Fault,
 }
 
@@ -56,28 +64,38 @@ impl OrderMaker {
         OrderMaker { last: vec![None; 256], fault }
     }
 
-    /// The request kept for a train byte.
-    pub fn kept(&self, train: u8) -> Option<Step> {
+    /// What is kept for a train byte.
+    pub fn kept(&self, train: u8) -> Option<Kept> {
         self.last[train as usize]
     }
 
-    /// The atomic step that this step with its answer adds, if any: a yes of
-    /// the box adds what is kept, an accepted move adds itself.
+    /// The atomic step that this step with its answer adds, if any: the first
+    /// yes of the box adds what is kept, an accepted move adds itself. A yes
+    /// to what has been granted adds nothing.
     pub fn add(&mut self, step: Step, answer: u8) -> Option<Step> {
         let [kind, train, _] = step;
         if answer != 0 {
             return None;
         }
+        let kept = &mut self.last[train as usize];
         match kind {
-            7 | 8 if self.fault.in_demand() => {
-                self.last[train as usize] = None;
+            7 | 8 if matches!(self.fault, Fault::BackOrderedWhenSent | Fault::BackNotOrdered) => {
+                *kept = None;
                 Some(step).filter(|_| self.fault == Fault::BackOrderedWhenSent)
             }
             1 | 2 | 7 | 8 => {
-                self.last[train as usize] = Some(step);
+                *kept = Some(Kept { step, granted: false });
                 None
             }
-            3 => self.last[train as usize],
+            3 => {
+                let kept = kept.as_mut()?;
+                let first = !std::mem::replace(&mut kept.granted, true);
+                (first || self.fault == Fault::RepeatOrderedAgain).then_some(kept.step)
+            }
+            10 if self.fault == Fault::RepeatNotOrdered => {
+                kept.iter_mut().for_each(|kept| kept.granted = true);
+                None
+            }
             5 | 6 => Some(step),
             _ => None,
         }
@@ -203,10 +221,12 @@ impl<'a> WholeLine<'a> {
             return 18;
         }
         let me = (i + 1) as u8;
-        if ![0, me].contains(&self.holder(next, number)) {
-            return 22;
+        match self.holder(next, number) {
+            0 => self.set_holder(next, number, me),
+            holder if holder != me => return 22,
+            // Granted already.
+            _ => {}
         }
-        self.set_holder(next, number, me);
         self.trains[i].reservations.insert((next, number));
         0
     }
@@ -225,7 +245,12 @@ impl<'a> WholeLine<'a> {
         }
         let me = (i + 1) as u8;
         let b = number as usize - 1;
-        if self.boxes[b].lock != 0 && self.boxes[b].lock != me {
+        if self.boxes[b].lock == me {
+            // Granted already.
+            self.trains[i].locks.insert(number);
+            return 0;
+        }
+        if self.boxes[b].lock != 0 {
             return 24;
         }
         if self.boxes[b].sensor {

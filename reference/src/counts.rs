@@ -1,7 +1,7 @@
 //! Counts of codes, as the comparing programs print them.
 
 /// Codes are below this.
-pub const CODES: usize = 30;
+pub const CODES: usize = 31;
 /// How often each code came.
 pub type Counts = [usize; CODES];
 /// The codes that refuse a file, in the order of their numbers.
@@ -17,9 +17,9 @@ pub fn file_codes() -> impl Iterator<Item = usize> {
     std::iter::once(0).chain(FILE_CODES.map(usize::from))
 }
 
-/// The codes of steps on records that 27 lets through: 0, 13 to 25 and 29.
+/// The codes of steps on records that 27 lets through: 0, 13 to 25, 29 and 30.
 pub fn step_codes() -> impl Iterator<Item = usize> {
-    std::iter::once(0).chain(13..=25).chain([29])
+    std::iter::once(0).chain(13..=25).chain([29, 30])
 }
 
 /// The codes of steps from the start of an accepted table on: all of these but 23.
@@ -27,9 +27,9 @@ pub fn list_codes() -> impl Iterator<Item = usize> {
     step_codes().filter(|&code| code != 23)
 }
 
-/// Whether a code refuses a step, which then leaves the line as it was: 13 to 21 and 29.
+/// Whether a code refuses a step, which then leaves the line as it was: 13 to 21, 29 and 30.
 pub fn refuses_step(code: u8) -> bool {
-    matches!(code, 13..=21 | 29)
+    matches!(code, 13..=21 | 29 | 30)
 }
 
 /// Files and steps by code.

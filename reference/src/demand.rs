@@ -1,10 +1,11 @@
 //! The third demand: what must hold after every list of steps. Each clause
-//! has its own name, so that a violation says which one broke. One clause
-//! stands beside the demand: that no step is answered 23.
+//! has its own name, so that a violation says which one broke. Beside the
+//! demand stands that no step is answered 23, and that a box says yes again
+//! to what it has granted, which changes no box.
 
 use crate::atomic::*;
 use crate::fault::Fault;
-use crate::line::Line;
+use crate::line::{BoxState, Line};
 use crate::step::Step;
 use crate::table::*;
 
@@ -37,17 +38,22 @@ pub enum Clause {
     /// Beside the demand: a step is answered 23, by the box or when the train
     /// hears it. A train on a point has its lock, so that another is told 24.
     Answered23,
+    /// Beside the demand: a box says no to what it has granted.
+    RepeatRefused,
+    /// Beside the demand: a box says yes to what it has granted, and some box
+    /// is not as it was before.
+    RepeatChangesBox,
 }
 
 impl Clause {
     /// Whether the clause is one of the demand.
     pub fn in_demand(self) -> bool {
-        self != Clause::Answered23
+        !matches!(self, Clause::Answered23 | Clause::RepeatRefused | Clause::RepeatChangesBox)
     }
 }
 
 /// All clauses, in the order of their numbers.
-pub const CLAUSES: [Clause; 12] = [
+pub const CLAUSES: [Clause; 14] = [
     Clause::TwoTrainsOneSegment,
     Clause::FrontBeyondRoute,
     Clause::PositionNotJoining,
@@ -60,6 +66,8 @@ pub const CLAUSES: [Clause; 12] = [
     Clause::LockDiffers,
     Clause::ReservationDiffers,
     Clause::Answered23,
+    Clause::RepeatRefused,
+    Clause::RepeatChangesBox,
 ];
 
 /// A set of clauses.
@@ -93,7 +101,7 @@ impl Clauses {
 #[derive(Clone, Debug, PartialEq, Eq, Hash)]
 pub struct CheckerState {
     places: Vec<Place>,
-    kept: Vec<Option<Step>>,
+    kept: Vec<Option<Kept>>,
     trains: Vec<WholeTrain>,
     boxes: Vec<WholeBox>,
     stopped: bool,
@@ -106,14 +114,15 @@ pub struct Checker<'a> {
     places: Vec<Place>,
     order: OrderMaker,
     whole: WholeLine<'a>,
-    positions: Vec<u8>,
+    /// The boxes of the line before the step.
+    before: Vec<BoxState>,
     stopped: bool,
     /// Length of the atomic order so far.
     pub order_length: u64,
 }
 
 impl<'a> Checker<'a> {
-    /// Before any step. The line given is only read for its positions.
+    /// Before any step. The line given is only read for its boxes.
     pub fn new(table: &'a Table, line: &Line) -> Self {
         Checker::new_with(table, line, Fault::None)
     }
@@ -125,7 +134,7 @@ impl<'a> Checker<'a> {
             places: vec![Place::default(); table.trains.len()],
             order: OrderMaker::new(fault),
             whole: WholeLine::start(table),
-            positions: line.boxes.iter().map(|b| b.position).collect(),
+            before: line.boxes.clone(),
             stopped: false,
             order_length: 0,
         }
@@ -155,12 +164,17 @@ impl<'a> Checker<'a> {
         if answer == 23 {
             broken.add(Clause::Answered23);
         }
+        if step[0] == 3 && self.order.kept(step[1]).is_some_and(|kept| kept.granted) {
+            match answer {
+                0 if self.before != line.boxes => broken.add(Clause::RepeatChangesBox),
+                22..=25 => broken.add(Clause::RepeatRefused),
+                _ => {}
+            }
+        }
         if self.position_changed_under_train(line) {
             broken.add(Clause::PositionChangedUnderTrain);
         }
-        for (kept, state) in self.positions.iter_mut().zip(&line.boxes) {
-            *kept = state.position;
-        }
+        self.before.copy_from_slice(&line.boxes);
         fold_place(&mut self.places, step, answer);
         if let Some(atomic) = self.order.add(step, answer) {
             self.order_length += 1;
@@ -240,7 +254,7 @@ impl<'a> Checker<'a> {
             let entry = &self.table.trains[i];
             (place.tail..place.front.min(entry.route.len())).any(|index| {
                 let number = self.table.far_box(entry.route[index], entry.direction) as usize;
-                line.boxes[number - 1].position != self.positions[number - 1]
+                line.boxes[number - 1].position != self.before[number - 1].position
             })
         })
     }

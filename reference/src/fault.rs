@@ -188,11 +188,43 @@ faults! {
         /// A yes to a give-back is recorded as a holding.
         BackHeardAsHolding,
     }
+    "Lost and sent again" {
+        /// A lost message lets the train ask or give back anew: 15 is not asked.
+        LostLetsAsk,
+        /// A loss takes the request along: no message is open after it.
+        LossForgets,
+        /// A yes that is lost counts as heard.
+        LostYesHeard,
+        /// A no that is lost stays: sent again, it is the answer, and the box is not asked.
+        LostNoStays,
+        /// A give-back that is lost puts the train's record back.
+        LossPutsRecordBack,
+        /// A box answers a lost message.
+        LostAnswered,
+        /// Kind 9 is accepted on a lost message.
+        LostLosesAgain,
+        /// Kind 10 is accepted while the message is under way, sent or answered: it is sent once more.
+        RepeatUnderWay,
+        /// A box byte in kinds 9 and 10 is not looked at.
+        RadioTakesBox,
+        /// 30 is looked at before 14.
+        NothingLostBeforeTrain,
+        /// 22 to 25 are looked at before what is granted already.
+        RowsBeforeGranted,
+        /// 24 also where the train itself has the lock.
+        OwnLockRefused,
+        /// A yes to a lock that the train has already sets the position again.
+        RepeatSetsPosition,
+    }
     "Demand 3" {
         /// The order has a give-back where it is sent, not where it is answered.
         BackOrderedWhenSent,
         /// The order has no give-backs.
         BackNotOrdered,
+        /// The order has a request or a give-back at each yes, not at the first one alone.
+        RepeatOrderedAgain,
+        /// The order has nothing that is granted after it was sent again.
+        RepeatNotOrdered,
     }
     "Reader" {
         /// Loops are accepted.
@@ -251,6 +283,8 @@ faults! {
         BackMessageAnywhere,
         /// 27 does not take 23 for the answer to a lock.
         SensorAnswerRefused,
+        /// 27 does not look at lost messages.
+        LostNotInRecord,
     }
 }
 
@@ -271,19 +305,12 @@ impl Fault {
 
     /// Whether the fault is in the check of a line record.
     pub fn in_record(self) -> bool {
-        matches!(
-            self,
-            Fault::RouteInForceMayJump
-                | Fault::TableMayJump
-                | Fault::BackCodesOfRequests
-                | Fault::BackMessageAnywhere
-                | Fault::SensorAnswerRefused
-        )
+        self.listed_under("Line record")
     }
 
     /// Whether the fault is in what demand 3 says, with all steps right.
     pub fn in_demand(self) -> bool {
-        matches!(self, Fault::BackOrderedWhenSent | Fault::BackNotOrdered)
+        self.listed_under("Demand 3")
     }
 
     /// Whether the fault is in the start or in the steps.

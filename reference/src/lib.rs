@@ -18,6 +18,7 @@ pub mod refusal;
 pub mod step;
 pub mod step_give_back;
 pub mod step_move;
+pub mod step_radio;
 pub mod step_request;
 pub mod table;
 pub mod table_check;

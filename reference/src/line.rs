@@ -63,6 +63,9 @@ pub enum Message {
     Sent(Request),
     /// Answered with this code, the train has not heard it.
     Answered(Request, u8),
+    /// Lost as it was sent or as it was answered. The train still waits, and
+    /// nothing is under way.
+    Lost(Request),
 }
 
 /// What a train knows it holds: bit `s - 1` of `at_a` is the reservation of

@@ -82,7 +82,8 @@ pub fn record_fault_with(line: &Line, fault: Fault) -> Option<RecordFault> {
 fn message_fault(line: &Line, train: usize, fault: Fault) -> Option<RecordFault> {
     let (request, code) = match line.trains[train].message {
         Message::None => return None,
-        Message::Sent(request) => (request, 0),
+        Message::Lost(_) if fault == Fault::LostNotInRecord => return None,
+        Message::Sent(request) | Message::Lost(request) => (request, 0),
         Message::Answered(request, code) => (request, code),
     };
     let unasked = request.wish.gives_back() && fault == Fault::BackMessageAnywhere;

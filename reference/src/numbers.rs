@@ -32,12 +32,13 @@ pub fn recorded(line: &Line, i: usize) -> [bool; 3] {
     }
 }
 
-/// State, kind, box and code of a message.
+/// State (0 none, 1 sent, 2 answered, 3 lost), kind, box and code of a message.
 pub fn message_numbers(message: Message) -> [u8; 4] {
     match message {
         Message::None => [0; 4],
         Message::Sent(Request { wish, number }) => [1, wish as u8, number, 0],
         Message::Answered(Request { wish, number }, code) => [2, wish as u8, number, code],
+        Message::Lost(Request { wish, number }) => [3, wish as u8, number, 0],
     }
 }
 

@@ -19,7 +19,7 @@ use crate::table::*;
 /// | `R` | a train's route in force: a field for each place |
 /// | `b` | a box: sensor, position, lock, holders at stem, left and right |
 /// | `t` | a train: direction, length, place, covered, near, far, lock |
-/// | `m` | a train's message: none (0); a reservation or a lock of box `value`, sent (1, 2) or answered yes (3, 4); the answer's code (5); a reservation or a lock given back to box `value`, sent (6, 7) or answered yes (8, 9) |
+/// | `m` | a train's message: none (0); a reservation or a lock of box `value`, sent (1, 2) or answered yes (3, 4); the answer's code (5); a reservation or a lock given back to box `value`, sent (6, 7) or answered yes (8, 9); lost: a reservation, a lock (10, 11), a reservation or a lock given back (12, 13) to box `value` |
 pub type Change = [u8; 4];
 
 /// The record.
@@ -101,6 +101,10 @@ impl Record {
                     7 => set(1, Wish::LockBack),
                     8 => set(2, Wish::ReservationBack),
                     9 => set(2, Wish::LockBack),
+                    10 => set(3, Wish::Reservation),
+                    11 => set(3, Wish::Lock),
+                    12 => set(3, Wish::ReservationBack),
+                    13 => set(3, Wish::LockBack),
                     _ => panic!("a message has no field {field}"),
                 }
             }
@@ -195,6 +199,7 @@ impl Record {
         match state {
             0 => Message::None,
             1 => Message::Sent(Request { wish, number }),
+            3 => Message::Lost(Request { wish, number }),
             _ => Message::Answered(Request { wish, number }, code),
         }
     }

@@ -1,12 +1,13 @@
-//! One step of the line: kinds 1 to 8, codes 13 to 25 and 29. Requests and
+//! One step of the line: kinds 1 to 10, codes 13 to 25, 29 and 30. Requests and
 //! answers are in `step_request`, give-backs in `step_give_back`, moves in
-//! `step_move`.
+//! `step_move`, messages that are lost and sent again in `step_radio`.
 
 use crate::fault::Fault;
 use crate::line::*;
 use crate::line_check::record_code;
 use crate::step_give_back::give_back;
 use crate::step_move::{clear, enter};
+use crate::step_radio::{lose, send_again};
 use crate::step_request::{answer, hear, send};
 
 /// A step: kind, train, box.
@@ -21,7 +22,7 @@ pub fn step_checked(line: &mut Line, step_bytes: Step) -> u8 {
 }
 
 /// Takes a step on a record that holds, and gives its code. The line is as
-/// it was for codes 13 to 21 and 29.
+/// it was for codes 13 to 21, 29 and 30.
 pub fn step(line: &mut Line, step_bytes: Step) -> u8 {
     step_with(line, step_bytes, Fault::None)
 }
@@ -44,11 +45,12 @@ fn decide(line: &mut Line, [kind, train, number]: Step, fault: Fault) -> u8 {
         1 | 2 => {}
         7 | 8 if number == 0 || fault != Fault::BackTakesNoBox => {}
         3..=6 if number == 0 || fault == Fault::BoxByteIgnored => {}
+        9 | 10 if number == 0 || fault == Fault::RadioTakesBox => {}
         _ if fault == Fault::TrainBeforeKind && no_train(line, train) => return 14,
         _ => return 13,
     }
     if no_train(line, train) {
-        return 14;
+        return if fault == Fault::NothingLostBeforeTrain && kind > 8 { 30 } else { 14 };
     }
     let index = train as usize - 1;
     match kind {
@@ -59,7 +61,9 @@ fn decide(line: &mut Line, [kind, train, number]: Step, fault: Fault) -> u8 {
         5 => enter(line, index, fault),
         6 => clear(line, index, fault),
         7 => give_back(line, index, Request { wish: Wish::ReservationBack, number }, fault),
-        _ => give_back(line, index, Request { wish: Wish::LockBack, number }, fault),
+        8 => give_back(line, index, Request { wish: Wish::LockBack, number }, fault),
+        9 => lose(line, index, fault),
+        _ => send_again(line, index, fault),
     }
 }
 

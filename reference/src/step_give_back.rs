@@ -4,11 +4,10 @@
 
 use crate::fault::Fault;
 use crate::line::*;
-use crate::step_request::{holds, request_stopped};
+use crate::step_request::{at_sending, holds, message_open, request_stopped};
 
 /// Kinds 7 and 8: the train sends.
 pub fn give_back(line: &mut Line, train: usize, request: Request, fault: Fault) -> u8 {
-    let open = line.trains[train].message != Message::None;
     let recorded = recorded(line, train, request, fault);
     let stopped = match request_stopped(line, train, request) {
         17 if fault == Fault::LockBackAnywhere && request.wish.of_lock() => 0,
@@ -18,7 +17,7 @@ pub fn give_back(line: &mut Line, train: usize, request: Request, fault: Fault) 
     if fault == Fault::NextBeforeMessage && stopped == 16 {
         return 16;
     }
-    if open && !matches!(fault, Fault::OpenMessageIgnored | Fault::BackWhileOpen) {
+    if message_open(line, train, fault) && fault != Fault::BackWhileOpen {
         return 15;
     }
     if stopped != 0 {
@@ -34,9 +33,7 @@ pub fn give_back(line: &mut Line, train: usize, request: Request, fault: Fault) 
         drop_record(line, train, request, fault);
     }
     line.trains[train].message = Message::Sent(request);
-    if fault == Fault::FreedAtSending {
-        free(line, train, request, fault);
-    }
+    at_sending(line, train, request, fault);
     0
 }
 

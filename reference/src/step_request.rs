@@ -4,16 +4,16 @@
 use crate::fault::Fault;
 use crate::line::*;
 use crate::step_give_back::{drop_record, free};
+use crate::step_radio::lost_no;
 use crate::table::POINT;
 
 /// Kinds 1 and 2: the train sends a request.
 pub fn send(line: &mut Line, train: usize, request: Request, fault: Fault) -> u8 {
-    let open = line.trains[train].message != Message::None;
     let stopped = request_stopped(line, train, request);
     if fault == Fault::NextBeforeMessage && stopped == 16 {
         return 16;
     }
-    if open && fault != Fault::OpenMessageIgnored {
+    if message_open(line, train, fault) {
         return 15;
     }
     if fault == Fault::RecordedBeforePlace && holds(line, train, request) {
@@ -29,14 +29,32 @@ pub fn send(line: &mut Line, train: usize, request: Request, fault: Fault) -> u8
         return 20;
     }
     line.trains[train].message = Message::Sent(request);
-    match fault {
-        Fault::RecordedWhenSent => record(line, train, request),
-        Fault::GrantAtSending if box_code(line, train, request, fault) == 0 => {
+    if fault == Fault::RecordedWhenSent {
+        record(line, train, request);
+    }
+    at_sending(line, train, request, fault);
+    0
+}
+
+/// 15: a message is open, a lost one too.
+pub fn message_open(line: &Line, train: usize, fault: Fault) -> bool {
+    match line.trains[train].message {
+        Message::None => false,
+        Message::Lost(_) if fault == Fault::LostLetsAsk => false,
+        _ => fault != Fault::OpenMessageIgnored,
+    }
+}
+
+/// What a box does at once with some faults when it is sent something, for
+/// the first time or again.
+pub fn at_sending(line: &mut Line, train: usize, request: Request, fault: Fault) {
+    match (fault, request.wish.gives_back()) {
+        (Fault::GrantAtSending, false) if box_code(line, train, request, fault) == 0 => {
             grant(line, train, request, fault)
         }
+        (Fault::FreedAtSending, true) => free(line, train, request, fault),
         _ => {}
     }
-    0
 }
 
 /// 16 or 17 if one of them stops the request, else 0. They are the same for
@@ -73,7 +91,7 @@ pub fn holds(line: &Line, train: usize, request: Request) -> bool {
 }
 
 /// The train records what the request is about.
-fn record(line: &mut Line, train: usize, request: Request) {
+pub fn record(line: &mut Line, train: usize, request: Request) {
     let t = &mut line.trains[train];
     match request.wish.of_lock() {
         false => {
@@ -89,13 +107,15 @@ pub fn answer(line: &mut Line, train: usize, fault: Fault) -> u8 {
     let request = match line.trains[train].message {
         Message::Sent(request) => request,
         Message::Answered(request, _) if fault == Fault::AnswersAgain => request,
+        Message::Lost(request) if fault == Fault::LostAnswered => request,
         _ => return 21,
     };
     let code = match fault {
         Fault::GrantAtSending => show_code(line, train, request),
         _ => box_code(line, train, request, fault),
     };
-    if code == 0 {
+    let again = granted_already(line, train, request) && fault != Fault::RepeatSetsPosition;
+    if code == 0 && !again {
         grant(line, train, request, fault);
     }
     let at_grant = matches!(fault, Fault::RecordedWhenGranted | Fault::GrantIsHearing);
@@ -109,7 +129,22 @@ pub fn answer(line: &mut Line, train: usize, fault: Fault) -> u8 {
     code
 }
 
-/// The decision of the box: 0 yes, 22 to 25 no. A give-back has a yes always.
+/// Whether the box holds what the train asks for, a segment or its lock, for
+/// that train. A give-back asks for nothing.
+fn granted_already(line: &Line, train: usize, request: Request) -> bool {
+    let me = (train + 1) as u8;
+    match request.wish {
+        Wish::Reservation => {
+            let next = line.trains[train].next_segment().unwrap_or(0);
+            line.reservation(next, request.number) == me
+        }
+        Wish::Lock => line.box_state(request.number).is_some_and(|state| state.lock == me),
+        Wish::ReservationBack | Wish::LockBack => false,
+    }
+}
+
+/// The decision of the box: 0 yes, 22 to 25 no. What it has granted to the
+/// train already is a yes before any other check; a give-back has a yes always.
 fn box_code(line: &Line, train: usize, request: Request, fault: Fault) -> u8 {
     let me = (train + 1) as u8;
     let number = request.number;
@@ -136,6 +171,8 @@ fn box_code(line: &Line, train: usize, request: Request, fault: Fault) -> u8 {
             match fault {
                 Fault::BoxesAlwaysNo => 24,
                 Fault::LockAlwaysGiven => 0,
+                Fault::OwnLockRefused if state.lock == me => 24,
+                _ if state.lock == me && fault != Fault::RowsBeforeGranted => 0,
                 Fault::No24WithoutHolder if state.lock == 0 && number % 2 == 1 => 24,
                 Fault::SensorBeforeLock if active => 23,
                 Fault::ReservationsFirst if missing => 25,
@@ -181,8 +218,8 @@ fn missing_here(line: &Line, me: u8, front: u8, next: u8, number: u8, fault: Fau
     }
 }
 
-/// The box says yes: the holder is set, or position and lock; or what is
-/// given back becomes free.
+/// The box says yes to what it has not granted already: the holder is set, or
+/// position and lock; or what is given back becomes free.
 fn grant(line: &mut Line, train: usize, request: Request, fault: Fault) {
     let me = (train + 1) as u8;
     let front = line.trains[train].front_segment();
@@ -217,6 +254,7 @@ fn grant(line: &mut Line, train: usize, request: Request, fault: Fault) {
 /// Kind 4: the train hears the answer; the message is gone.
 pub fn hear(line: &mut Line, train: usize, fault: Fault) -> u8 {
     let (request, code) = match line.trains[train].message {
+        Message::Answered(_, code) if lost_no(code, fault) => return 21,
         Message::Answered(request, code) => (request, code),
         Message::Sent(request) if fault == Fault::HearsUnanswered => (request, 0),
         _ => return 21,

@@ -9,7 +9,7 @@ use reference::fast;
 use reference::fault::Fault;
 use reference::generate::small_tables::Files;
 use reference::generate::smallest::may_show;
-use reference::line::{start_line, start_line_with, Line};
+use reference::line::*;
 use reference::line_check::record_code;
 use reference::step::{step, step_with, Step};
 use reference::refusal::Refusal;
@@ -22,14 +22,32 @@ use std::collections::{BTreeSet, HashSet};
 fn all_steps(table: &Table) -> Vec<Step> {
     let k = table.trains.len() as u8;
     let m = table.boxes.len() as u8;
-    let mut steps = vec![[0, 1, 0], [9, 1, 0], [3, 1, 1], [1, 0, 1], [8, 0, 1], [5, k + 1, 0], [255; 3]];
+    let mut steps = vec![[0, 1, 0], [11, 1, 0], [3, 1, 1], [1, 0, 1], [8, 0, 1], [5, k + 1, 0], [255; 3]];
+    steps.extend([[9, 1, 1], [10, 1, 2], [9, 0, 0], [10, k + 1, 0]]);
     for train in 1..=k {
         for number in 0..=m + 1 {
             steps.extend([1, 2, 7, 8].map(|kind| [kind, train, number]));
         }
-        steps.extend((3..=6).map(|kind| [kind, train, 0]));
+        steps.extend([3, 4, 5, 6, 9, 10].map(|kind| [kind, train, 0]));
     }
     steps
+}
+
+/// All that changes of a line: its boxes and, of its trains, place, holdings and message.
+type Changing = (Vec<BoxState>, Vec<(usize, u8, Holdings, Message)>);
+
+fn changing(line: &Line) -> Changing {
+    let trains = line.trains.iter().map(|t| (t.front, t.covered, t.holdings, t.message));
+    (line.boxes.clone(), trains.collect())
+}
+
+/// Makes the line the same as another one of its table.
+fn reset(line: &mut Line, other: &Line) {
+    line.boxes.clone_from(&other.boxes);
+    for (train, other) in line.trains.iter_mut().zip(&other.trains) {
+        let &TrainState { front, covered, holdings, message, .. } = other;
+        (train.front, train.covered, train.holdings, train.message) = (front, covered, holdings, message);
+    }
 }
 
 /// Searches all reachable lines; gives their number and the codes seen.
@@ -45,28 +63,28 @@ fn search_with(table: &Table, fault: Fault) -> (usize, BTreeSet<u8>, Clauses) {
     let start = start_line(table);
     let first = Checker::new(table, &start);
     assert!(first.state_clauses(&start).is_empty());
-    let mut seen = HashSet::from([(start.boxes.clone(), start.trains.clone(), first.state())]);
+    let mut seen = HashSet::from([(changing(&start), first.state())]);
     let mut open = vec![(start, first)];
     let (mut codes, mut all_broken) = (BTreeSet::new(), Clauses::default());
     let steps = all_steps(table);
-    while let Some((line, checker)) = open.pop() {
+    while let Some((before, checker)) = open.pop() {
+        let mut line = before.clone();
         for &bytes in &steps {
-            let before = &line;
-            let mut line = before.clone();
             let answer = step_with(&mut line, bytes, fault);
             codes.insert(answer);
             if refuses_step(answer) {
-                assert_eq!(*before, line);
+                assert_eq!(before, line);
                 continue;
             }
             let mut checker = checker.clone();
             let broken = checker.observe(bytes, answer, &line);
             assert!(broken.is_empty() || fault != Fault::None, "{bytes:?} {answer} {broken:?} {line:?}");
             all_broken.join(broken);
-            if seen.insert((line.boxes.clone(), line.trains.clone(), checker.state())) {
+            if seen.insert((changing(&line), checker.state())) {
                 assert_eq!(record_code(&line), 0);
-                open.push((line, checker));
+                open.push((line.clone(), checker));
             }
+            reset(&mut line, &before);
         }
     }
     (seen.len(), codes, all_broken)
@@ -167,15 +185,13 @@ fn seen_of(line: &Line) -> impl PartialEq {
 /// Whether any list tells the faulty engine from the right one.
 fn told_apart(table: &Table, fault: Fault) -> bool {
     let start = (start_line(table), start_line_with(table, fault));
-    let key = |(a, b): &(Line, Line)| {
-        (a.boxes.clone(), a.trains.clone(), b.boxes.clone(), b.trains.clone())
-    };
+    let key = |(a, b): &(Line, Line)| (changing(a), changing(b));
     let mut seen = HashSet::from([key(&start)]);
     let mut open = vec![start];
     let steps = all_steps(table);
     while let Some((right, faulty)) = open.pop() {
+        let mut pair = (right.clone(), faulty.clone());
         for &bytes in &steps {
-            let mut pair = (right.clone(), faulty.clone());
             let answers = (step(&mut pair.0, bytes), step_with(&mut pair.1, bytes, fault));
             if answers.0 == answers.1 && pair.0 == right && pair.1 == faulty {
                 continue;
@@ -184,8 +200,10 @@ fn told_apart(table: &Table, fault: Fault) -> bool {
                 return true;
             }
             if seen.insert(key(&pair)) {
-                open.push(pair);
+                open.push(pair.clone());
             }
+            reset(&mut pair.0, &right);
+            reset(&mut pair.1, &faulty);
         }
     }
     false
@@ -209,6 +227,10 @@ fn faults_no_list_shows() {
         Fault::RecordedBeforePlace,
         Fault::DroppedWhenHeard,
         Fault::LockBackAnywhere,
+        Fault::OwnSegmentRefused,
+        Fault::OwnLockRefused,
+        Fault::BackMayBeRefused,
+        Fault::BackFreesAnyone,
     ] {
         assert!(tables.iter().any(|t| told_apart(t, fault)), "{fault:?}");
     }

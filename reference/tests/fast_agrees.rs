@@ -9,13 +9,15 @@ use reference::fault::{Fault, FAULTS};
 use reference::generate::damage::damaged_file;
 use reference::generate::listing::{damaged_listing, ListingCounts};
 use reference::generate::lock_asked::LockCounts;
+use reference::generate::lost::{LostCounts, StateCounts, Watched};
 use reference::generate::made_up::{changes, step_on, Aim, AIMS};
 use reference::generate::outside::table_with_steps;
 use reference::generate::prng::Prng;
 use reference::generate::steps::drive;
 use reference::generate::tables::{accepted_table, largest_table};
-use reference::line::{start_line, start_line_with};
+use reference::line::{start_line, start_line_with, Line, WISHES};
 use reference::line_check::record_fault_with;
+use reference::numbers::message_numbers;
 use reference::record::Record;
 use reference::refusal::{code_of, Refusal};
 use reference::step::{step, step_with, Step};
@@ -67,11 +69,30 @@ fn numbers(line: &fast::Line) -> Vec<u8> {
     trains.chain((0..MAX_BOXES).flat_map(|i| line.box_numbers(i))).collect()
 }
 
-/// Codes of checked steps on made-up records, and what boxes find there that answer a lock.
+/// Codes of checked steps on made-up records, and what boxes find there that answer a lock; steps of kinds 3, 4, 9 and
+/// 10 by the state of the message; lost messages by kind, those of records that pass 27 and of others.
 #[derive(Default)]
 struct RecordCounts {
     codes: Counts,
     locks: LockCounts,
+    states: StateCounts,
+    lost: [[usize; 2]; 4],
+}
+
+impl RecordCounts {
+    /// Counts a step with its code on a line.
+    fn add(&mut self, line: &Line, bytes: Step, code: u8) {
+        self.codes[usize::from(code)] += 1;
+        for train in &line.trains {
+            let [state, kind, ..] = message_numbers(train.message);
+            if let (3, Some(row)) = (state, WISHES.iter().position(|&wish| wish as u8 == kind)) {
+                self.lost[row][usize::from(code == 27)] += 1;
+            }
+        }
+        if code != 27 {
+            self.states.add(line, bytes);
+        }
+    }
 }
 
 /// Whether made-up records, one for each aim and more that pass 27, have the same code of a checked step, which is
@@ -87,6 +108,7 @@ fn records_alike(case: u64, fault: Fault, counts: &mut RecordCounts) -> bool {
         let record = Record::changed(&reached, &changes);
         let (mut line, mut fast) = (record.line(), record.fast_line());
         let bytes = step_on(&mut rng, if aim.clause().is_none() { &line } else { &reached }, &changes, aim);
+        let before = line.clone();
         let code = match record_fault_with(&line, fault) {
             None => {
                 counts.locks.add(&line, bytes);
@@ -94,7 +116,7 @@ fn records_alike(case: u64, fault: Fault, counts: &mut RecordCounts) -> bool {
             }
             Some(_) => 27,
         };
-        counts.codes[usize::from(code)] += 1;
+        counts.add(&before, bytes, code);
         let answer = fast.step_checked(bytes);
         let same_record = match code {
             27 => numbers(&fast) == numbers(&record.fast_line()),
@@ -170,12 +192,27 @@ fn loops() {
 
 #[test]
 fn runs() {
+    let mut lost = LostCounts::default();
     for case in 0..400 {
         let mut rng = Prng::for_case(32, case);
         let (table, steps) = table_with_steps(&mut rng, case);
+        count_lost(&mut lost, &table, &steps);
         assert!(runs_alike(&table, &steps, Fault::None), "case {case}");
         let random: Vec<u8> = (0..300).map(|_| rng.byte()).collect();
         assert!(runs_alike(&table, &random, Fault::None), "case {case}, random bytes");
+    }
+    assert!(lost.fewest() > 1, "{lost}");
+}
+
+/// Counts what becomes of lost messages in a run.
+fn count_lost(lost: &mut LostCounts, table: &Table, steps: &[u8]) {
+    let mut line = start_line(table);
+    lost.start();
+    for bytes in steps.chunks_exact(3) {
+        let bytes: Step = bytes.try_into().expect("a step has three bytes");
+        let watched = Watched::of(&line, bytes);
+        let code = step(&mut line, bytes);
+        lost.add(watched, bytes, code);
     }
 }
 
@@ -221,8 +258,10 @@ fn records() {
     assert_eq!(none.step_checked([0; 3]), 27);
     let mut counts = RecordCounts::default();
     assert!((0..800).all(|case| records_alike(case, Fault::None, &mut counts)));
-    let RecordCounts { codes, locks } = counts;
-    println!("{codes:?}\n{locks}");
+    let RecordCounts { codes, locks, states, lost } = counts;
+    println!("{codes:?}\n{locks}{states}{lost:?}");
+    assert!(states.fewest() > 30, "{states}");
+    assert!(lost.as_flattened().iter().all(|&count| count > 100), "{lost:?}");
     let seen = |code: usize| code == 27 || step_codes().any(|of_step| of_step == code);
     assert!((0..CODES).all(|code| (codes[code] > 20) == seen(code)), "{codes:?}");
     assert!(locks.fewest() > 10);

@@ -8,6 +8,7 @@ use reference::demand::{check_demand, Clause};
 use reference::fault::{Fault, FAULTS};
 use reference::generate::damage::damaged_file;
 use reference::generate::listing::damaged_listing;
+use reference::generate::lost::{LostCounts, Watched};
 use reference::generate::made_up::{changes, AIMS};
 use reference::generate::prng::Prng;
 use reference::generate::steps::{drive, drive_by, Driver};
@@ -133,7 +134,7 @@ fn steps_hit_every_code_and_the_demand_holds() {
 }
 
 /// Give-backs of both kinds are sent, answered and heard; what was given back goes to another train, or to the same one
-/// again; and a driver without them has none.
+/// again; and a driver of the kinds 1 to 6 has none.
 #[test]
 fn steps_give_back() {
     let mut seen = [[0; 3]; 2];
@@ -169,11 +170,31 @@ fn steps_give_back() {
                 giver.iter().for_each(|&giver| had[usize::from(giver != i)] += 1);
             }
         }
-        let driver = Driver::without_back(&mut rng);
+        let driver = Driver::of_first_kinds(&mut rng);
         let steps = drive_by(driver, &mut rng, &mut start_line(&table), 200);
-        assert!(steps.iter().all(|([kind, ..], _)| !matches!(kind, 7 | 8)));
+        assert!(steps.iter().all(|([kind, ..], _)| !matches!(kind, 7..=10)));
     }
     assert!(seen.as_flattened().iter().chain(&had).all(|&count| count > 50), "{seen:?} {had:?}");
+}
+
+/// Messages of each kind are lost as they are sent and as they are answered, yes and no, and sent again; boxes have
+/// granted them by then or not, and what is given back is another's by then; and 30 comes in each of its ways.
+#[test]
+fn steps_lose_messages() {
+    let mut lost = LostCounts::default();
+    for case in 0..CASES {
+        let mut rng = Prng::for_case(19, case);
+        let mut line = start_line(&accepted_table(&mut rng));
+        let mut driver = Driver::new(&mut rng);
+        lost.start();
+        for _ in 0..2_000 {
+            let bytes = driver.next_step(&mut rng, &line);
+            let watched = Watched::of(&line, bytes);
+            let code = step(&mut line, bytes);
+            lost.add(watched, bytes, code);
+        }
+    }
+    assert!(lost.fewest() > 2, "{lost}");
 }
 
 /// Over all cases of a step fault: what came up in any of them.
@@ -224,6 +245,17 @@ fn clauses_are_broken_by_the_faults_they_stop() {
         (Fault::BackNotOrdered, Clause::OrderStopped),
         (Fault::SensorBeforeLock, Clause::Answered23),
         (Fault::LockFreedAtEnter, Clause::Answered23),
+        (Fault::GrantIsHearing, Clause::OrderStopped),
+        (Fault::BackFreesAnyone, Clause::ReservationDiffers),
+        (Fault::BackFreesAnyone, Clause::RepeatChangesBox),
+        (Fault::LostLetsAsk, Clause::OrderStopped),
+        (Fault::LossForgets, Clause::OrderStopped),
+        (Fault::LossPutsRecordBack, Clause::OrderStopped),
+        (Fault::RepeatOrderedAgain, Clause::OrderStopped),
+        (Fault::RepeatNotOrdered, Clause::ReservationDiffers),
+        (Fault::OwnSegmentRefused, Clause::RepeatRefused),
+        (Fault::OwnLockRefused, Clause::RepeatRefused),
+        (Fault::BackMayBeRefused, Clause::RepeatRefused),
     ] {
         assert!(any_case(fault).broken.has(clause), "{fault:?} {clause:?}");
     }
@@ -240,6 +272,17 @@ fn demand_alone_admits() {
         Fault::OneCodeRefuses,
         Fault::SensorBeforeLock,
         Fault::ReservationsFirst,
+        Fault::AnswersAgain,
+        Fault::OwnSegmentRefused,
+        Fault::OwnLockRefused,
+        Fault::BackMayBeRefused,
+        Fault::LostYesHeard,
+        Fault::LostNoStays,
+        Fault::LostAnswered,
+        Fault::LostLosesAgain,
+        Fault::RepeatUnderWay,
+        Fault::RadioTakesBox,
+        Fault::NothingLostBeforeTrain,
     ] {
         let all = any_case(fault);
         assert!(!all.broken.breaks_demand() && all.answers_differ, "{fault:?}");

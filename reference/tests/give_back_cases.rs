@@ -3,38 +3,10 @@
 mod common;
 use common::*;
 use reference::atomic::{atomic_order, WholeLine};
-use reference::demand::Checker;
-use reference::fast;
 use reference::line::*;
 use reference::numbers::{recorded, train_numbers};
 use reference::step::Step;
-use reference::table::{Table, LINK};
-use reference::table_write::file_bytes;
-
-/// Takes steps from the start line on, each with the code beside it, on both engines, with demand 3 checked.
-fn walk(table: &Table, steps: &[(Step, u8)]) -> Line {
-    let mut line = start_line(table);
-    let mut checker = Checker::new(table, &line);
-    let mut quick = fast::Line::NONE;
-    assert_eq!(quick.read(&file_bytes(table)), Ok(()));
-    for &(bytes, code) in steps {
-        go_on(&mut line, &[(bytes, code)]);
-        assert!(checker.observe(bytes, code, &line).is_empty(), "{bytes:?}");
-        assert_eq!(quick.step(bytes), code, "{bytes:?}");
-        assert!(same(&line, &quick), "{bytes:?}");
-    }
-    line
-}
-
-/// Two trains that both want segment 2, from either side.
-fn opposed() -> Table {
-    s_with(&[(0, &[1, 2, 4]), (1, &[4, 2, 1])])
-}
-
-/// Two trains side by side that both want segment 4.
-fn abreast() -> Table {
-    s_with(&[(0, &[2, 4]), (0, &[3, 4])])
-}
+use reference::table::LINK;
 
 /// Train 1 of `abreast` holds all that it needs.
 fn all_held() -> Vec<(Step, u8)> {
@@ -185,11 +157,11 @@ fn while_crossing() {
     assert_eq!(recorded(&line, 0), [true, false, false]);
 }
 
-/// Kinds 9 and above are 13, whatever train and box; a box byte is well formed in kinds 7 and 8, and 14 comes next.
+/// Kinds 11 and above are 13, whatever train and box; a box byte is well formed in kinds 7 and 8, and 14 comes next.
 #[test]
 fn kinds() {
     let table = opposed();
-    for kind in (9..=255).chain([0]) {
+    for kind in (11..=255).chain([0]) {
         walk(&table, &[([kind, 1, 0], 13), ([kind, 1, 2], 13), ([kind, 0, 0], 13)]);
     }
     for number in [0, 2, 255] {

@@ -190,14 +190,15 @@ fn locked_before_and_while_crossed() {
 
 /// A record that passes 27, made up from the start of S: train 1 asks box 2 for its lock, and the box finds this
 /// sensor and these holders of its lock, of segment 1, the front, and of segment 2, next. The box answers with the
-/// code and the train hears it, on both engines; the atomic line has the code too.
+/// code and the train hears it, on both engines; the atomic line has the code too. A yes sets lock and position, but for
+/// a lock that is the train's already.
 fn lock_answered(sensor: bool, [lock, front, next]: [u8; 3], code: u8) {
     let table = read_table(&S).unwrap();
     let mut line = start_line(&table);
     line.trains[0].message = Message::Sent(Request { wish: Wish::Lock, number: 2 });
     line.boxes[1] = BoxState { sensor, position: 2, lock, reserved: [front, next, 0] };
     let mut due = line.boxes.clone();
-    if code == 0 {
+    if code == 0 && lock != 1 {
         (due[1].lock, due[1].position) = (1, 1);
     }
     let mut quick = Record::of(&line).fast_line();
@@ -214,14 +215,12 @@ fn lock_answered(sensor: bool, [lock, front, next]: [u8; 3], code: u8) {
     assert_eq!((whole.boxes[1].lock, whole.boxes[1].position), (due[1].lock, due[1].position));
 }
 
-/// 23 is for a sensor active with no other train's lock, whatever is reserved.
+/// 23 is for a sensor active with the lock free, whatever is reserved; a lock that is the train's already is a yes.
 #[test]
-fn sensor_with_no_other_lock() {
-    for lock in [0, 1] {
-        lock_answered(true, [lock, 1, 1], 23);
-        for [front, next] in [[0, 1], [2, 1], [1, 0], [1, 2], [0, 0], [2, 2]] {
-            lock_answered(true, [lock, front, next], 23);
-        }
+fn sensor_with_no_lock() {
+    for [front, next] in [[1, 1], [0, 1], [2, 1], [1, 0], [1, 2], [0, 0], [2, 2]] {
+        lock_answered(true, [0, front, next], 23);
+        lock_answered(true, [1, front, next], 0);
     }
 }
 
@@ -235,15 +234,15 @@ fn lock_of_another_first() {
     }
 }
 
-/// 25 comes last: the sensor is passive and no other train has the lock.
+/// 25 comes last: the sensor is passive and the lock is free.
 #[test]
 fn reservation_missing_last() {
-    for lock in [0, 1] {
-        for [front, next] in [[0, 1], [2, 1], [1, 0], [1, 2], [0, 0], [2, 2]] {
-            lock_answered(false, [lock, front, next], 25);
-        }
-        lock_answered(false, [lock, 1, 1], 0);
+    for [front, next] in [[0, 1], [2, 1], [1, 0], [1, 2], [0, 0], [2, 2]] {
+        lock_answered(false, [0, front, next], 25);
+        lock_answered(false, [1, front, next], 0);
     }
+    lock_answered(false, [0, 1, 1], 0);
+    lock_answered(false, [1, 1, 1], 0);
 }
 
 /// An answer of 23 or 24 under way passes 27 and is heard; the train may then ask again.

@@ -49,7 +49,7 @@ fn main() {
     println!("seed {seed}: {cases} cases of {steps} steps per fault; half are led by the faulty line");
     println!("demand 3: cases that break it; answers: cases with an answer that differs; state: cases");
     println!("where boxes or places differ after some step; none: cases with none of these and no clause broken;");
-    println!("the clause Answered23 is none of demand 3, but stands beside it");
+    println!("the clauses Answered23, RepeatRefused and RepeatChangesBox are none of demand 3, but stand beside it");
     println!(
         "{:24} {:>5} {:>8} {:>7} {:>5} {:>4}  clauses broken, with cases",
         "step fault", "cases", "demand 3", "answers", "state", "none"

@@ -1,5 +1,6 @@
 //! Counts how often each code comes up over generated files and steps, what
-//! becomes of requests and of what is given back, and what code 8 finds.
+//! becomes of requests, of what is given back and of lost messages, and what
+//! code 8 finds.
 //! Arguments: seed, number of tables, damaged files per table, steps per
 //! table.
 
@@ -8,6 +9,7 @@ use reference::counts::{print_codes, CODES};
 use reference::generate::damage::damaged_file;
 use reference::generate::listing::{damaged_listing, ListingCounts};
 use reference::generate::lock_asked::LockCounts;
+use reference::generate::lost::{LostCounts, Watched};
 use reference::generate::prng::Prng;
 use reference::generate::steps::Driver;
 use reference::generate::tables::{accepted_table, largest_table};
@@ -25,6 +27,7 @@ fn main() {
     let mut step_codes = [0; CODES];
     let mut messages = Messages::default();
     let mut locks = LockCounts::default();
+    let mut lost = LostCounts::default();
     let mut listings = ListingCounts::default();
     // 11 and 28, in train 1 and in later ones, at places 1 to 4 and later ones.
     let mut places = [[[0; 5]; 2]; 2];
@@ -58,11 +61,14 @@ fn main() {
         }
         let mut line = start_line(&table);
         let mut driver = Driver::new(&mut rng);
+        lost.start();
         for _ in 0..steps {
             let bytes = driver.next_step(&mut rng, &line);
             let before = message_of(&line, bytes);
             locks.add(&line, bytes);
+            let watched = Watched::of(&line, bytes);
             let code = step(&mut line, bytes);
+            lost.add(watched, bytes, code);
             step_codes[code as usize] += 1;
             messages.add(&line, bytes, code, before);
         }
@@ -86,6 +92,7 @@ fn main() {
     }
     let [again, handed_on] = messages.after_back;
     print!("{locks}");
+    print!("{lost}");
     println!("given back, then had again by the same train: {again}, by another one: {handed_on}");
     print!("{listings}");
 }

@@ -21,9 +21,10 @@ pub enum State {
     None,
     Sent,
     Answered,
+    Lost,
 }
 
-/// The one message of a train; where it is none, the rest plays no part.
+/// The one message of a train; where it is none, the rest plays no part. The code is 0 where it is sent or lost.
 #[derive(Clone, Copy, Debug)]
 pub struct Message {
     pub state: State,
@@ -41,6 +42,7 @@ impl From<line::Message> for Message {
             line::Message::None => Message::NONE,
             line::Message::Sent(request) => Message { state: State::Sent, request, code: 0 },
             line::Message::Answered(request, code) => Message { state: State::Answered, request, code },
+            line::Message::Lost(request) => Message { state: State::Lost, request, code: 0 },
         }
     }
 }

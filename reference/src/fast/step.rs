@@ -1,4 +1,4 @@
-//! Steps: kinds 1 to 8, codes 13 to 25 and 29.
+//! Steps: kinds 1 to 10, codes 13 to 25, 29 and 30.
 
 use super::line::{Line, Message, State, Train};
 use crate::line::{Request, Wish};
@@ -34,7 +34,7 @@ impl Line {
     pub fn step(&mut self, [kind, train, number]: Step) -> u8 {
         match kind {
             1 | 2 | 7 | 8 => {}
-            3..=6 if number == 0 => {}
+            3..=6 | 9 | 10 if number == 0 => {}
             _ => return 13,
         }
         let index = train.wrapping_sub(1);
@@ -50,7 +50,9 @@ impl Line {
             5 => self.enter(index),
             6 => self.clear(index),
             7 => self.trains[index].give_back_reservation(number),
-            _ => self.trains[index].give_back_lock(number),
+            8 => self.trains[index].give_back_lock(number),
+            9 => self.trains[index].lose(),
+            _ => self.trains[index].send_again(),
         }
     }
 
@@ -76,7 +78,9 @@ impl Line {
             Wish::Lock => {
                 let state = &mut self.boxes[usize::from(around.ahead) - 1];
                 let holds = |slot: u16| self.holders[usize::from(slot)] == me;
-                if state.lock != 0 && state.lock != me {
+                if state.lock == me {
+                    0
+                } else if state.lock != 0 {
                     24
                 } else if state.sensor {
                     23
@@ -215,6 +219,26 @@ impl Train {
 
     fn send(&mut self, wish: Wish, number: u8) -> u8 {
         self.message = Message { state: State::Sent, request: Request { wish, number }, code: 0 };
+        0
+    }
+
+    /// Kind 9: what is under way is lost.
+    fn lose(&mut self) -> u8 {
+        match self.message.state {
+            State::Sent | State::Answered => {
+                (self.message.state, self.message.code) = (State::Lost, 0);
+                0
+            }
+            State::None | State::Lost => 30,
+        }
+    }
+
+    /// Kind 10: what was lost is sent again.
+    fn send_again(&mut self) -> u8 {
+        if self.message.state != State::Lost {
+            return 30;
+        }
+        self.message.state = State::Sent;
         0
     }
 

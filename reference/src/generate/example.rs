@@ -146,6 +146,8 @@ fn step_words([kind, train, number]: Step) -> String {
         6 => format!("train {train} clears the box behind"),
         7 => format!("train {train} gives its next segment back to box {number}"),
         8 => format!("train {train} gives the lock back to box {number}"),
+        9 => format!("the message of train {train} is lost"),
+        10 => format!("train {train} sends its message again"),
         _ => format!("there is no kind {kind}"),
     }
 }

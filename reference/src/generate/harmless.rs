@@ -55,15 +55,24 @@ fn box_change(rng: &mut Prng, line: &Line, i: usize) -> Change {
     [b'b', number - 1, field, value]
 }
 
-/// The change that gives a train such a message, sent or answered yes.
-pub fn message_field(train: u8, wish: Wish, answered: bool, number: u8) -> Change {
-    let field = match wish {
-        Wish::Reservation => 1,
-        Wish::Lock => 2,
-        Wish::ReservationBack => 6,
-        Wish::LockBack => 7,
+/// What has become of a message that a change gives to a train.
+#[derive(Clone, Copy, Debug, PartialEq, Eq)]
+pub enum Stage {
+    Sent,
+    /// With a yes.
+    Answered,
+    Lost,
+}
+
+/// The change that gives a train such a message.
+pub fn message_field(train: u8, wish: Wish, stage: Stage, number: u8) -> Change {
+    let fields = match wish {
+        Wish::Reservation => [1, 3, 10],
+        Wish::Lock => [2, 4, 11],
+        Wish::ReservationBack => [6, 8, 12],
+        Wish::LockBack => [7, 9, 13],
     };
-    [b'm', train, field + 2 * u8::from(answered), number]
+    [b'm', train, fields[stage as usize], number]
 }
 
 /// A message that 16 and 17 let through, with a code that its box gives. One about a lock is about a reservation where
@@ -85,10 +94,11 @@ pub fn message_change(rng: &mut Prng, line: &Line, i: usize, wish: Wish) -> Vec<
         Wish::Lock => rng.between(23, 25) as u8,
         Wish::ReservationBack | Wish::LockBack => 0,
     };
-    match rng.below(4) {
-        0 | 1 => vec![message_field(t, wish, false, number)],
-        3 if no != 0 => vec![message_field(t, wish, true, number), [b'm', t, 5, no]],
-        _ => vec![message_field(t, wish, true, number)],
+    match rng.below(6) {
+        0 | 1 => vec![message_field(t, wish, Stage::Sent, number)],
+        2 if no != 0 => vec![message_field(t, wish, Stage::Answered, number), [b'm', t, 5, no]],
+        2 | 3 => vec![message_field(t, wish, Stage::Answered, number)],
+        _ => vec![message_field(t, wish, Stage::Lost, number)],
     }
 }
 

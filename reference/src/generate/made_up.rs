@@ -1,7 +1,7 @@
 //! Made-up records: changes of a line that steps have reached, directed at one clause of code 27 or
 //! at none. What comes out has to be looked at: a change may miss its aim.
 
-use super::harmless::{harmless, message_change, message_field};
+use super::harmless::{harmless, message_change, message_field, Stage};
 use super::lock_asked::{Holder, LockAsked};
 use super::prng::Prng;
 use crate::line::*;
@@ -46,15 +46,26 @@ pub enum Aim {
     BackNoNext(u8),
     BackWrongBox(u8),
     BackCode(u8),
+    /// The first two of a lost message.
+    LostNoNext,
+    LostWrongBox,
     /// Nothing: the record passes.
     Nothing,
     /// Nothing: a box is to answer a lock, with anything that it can find there.
     LockAsked,
     /// Nothing: a train is to hear this code in answer to a lock.
     LockHeard(u8),
+    /// Nothing: a box is to answer a reservation that it has granted to the train already.
+    ReservedAsked,
+    /// Nothing: a box is to answer a give-back of this kind, 7 or 8, of what is free or another's.
+    BackOfNone(u8),
+    /// Nothing: a train whose message is lost takes a step of any kind.
+    LostWaits,
+    /// Nothing: the message of a train, or no message, is to be lost or sent again.
+    Radio,
 }
 
-pub const AIMS: [Aim; 40] = [
+pub const AIMS: [Aim; 47] = [
     Aim::Table(3),
     Aim::Table(4),
     Aim::Table(6),
@@ -89,12 +100,19 @@ pub const AIMS: [Aim; 40] = [
     Aim::BackWrongBox(8),
     Aim::BackCode(7),
     Aim::BackCode(8),
+    Aim::LostNoNext,
+    Aim::LostWrongBox,
     Aim::Nothing,
     Aim::LockAsked,
     Aim::LockHeard(0),
     Aim::LockHeard(23),
     Aim::LockHeard(24),
     Aim::LockHeard(25),
+    Aim::ReservedAsked,
+    Aim::BackOfNone(7),
+    Aim::BackOfNone(8),
+    Aim::LostWaits,
+    Aim::Radio,
 ];
 
 impl Aim {
@@ -110,8 +128,10 @@ impl Aim {
             Aim::Position => RecordFault::Position,
             Aim::LockHolder | Aim::StemHolder | Aim::LeftHolder | Aim::RightHolder => RecordFault::Holder,
             Aim::NoNext | Aim::WrongBox | Aim::BackNoNext(_) | Aim::BackWrongBox(_) => RecordFault::Message,
+            Aim::LostNoNext | Aim::LostWrongBox => RecordFault::Message,
             Aim::AnswerCode | Aim::BackCode(_) => RecordFault::AnswerCode,
             Aim::Nothing | Aim::LockAsked | Aim::LockHeard(_) => return None,
+            Aim::ReservedAsked | Aim::BackOfNone(_) | Aim::LostWaits | Aim::Radio => return None,
         })
     }
 }
@@ -178,7 +198,7 @@ pub fn lock_changes(rng: &mut Prng, line: &Line, asked: LockAsked) -> Option<Vec
         Some([b'b', ahead - 1, field as u8, train])
     };
     Some(vec![
-        message_field(i as u8, Wish::Lock, false, ahead),
+        message_field(i as u8, Wish::Lock, Stage::Sent, ahead),
         [b'b', ahead - 1, 0, u8::from(asked.sensor)],
         held(2, asked.lock)?,
         held(3 + front_place, asked.front)?,
@@ -200,7 +220,10 @@ fn fits(line: &Line, i: usize, aim: Aim) -> bool {
         Aim::TailOutside => train.front == 0,
         Aim::CoversThree => idle && train.route.len() >= 3,
         Aim::WrongBox | Aim::AnswerCode | Aim::BackWrongBox(_) | Aim::BackCode(_) => train.next_segment().is_some(),
-        Aim::LockAsked | Aim::LockHeard(_) => ends_of_next(line, i).is_some_and(|(.., ahead)| is_point(line, ahead)),
+        Aim::LostWrongBox | Aim::ReservedAsked | Aim::BackOfNone(7) | Aim::LostWaits => train.next_segment().is_some(),
+        Aim::LockAsked | Aim::LockHeard(_) | Aim::BackOfNone(_) => {
+            ends_of_next(line, i).is_some_and(|(.., ahead)| is_point(line, ahead))
+        }
         _ => true,
     }
 }
@@ -240,34 +263,82 @@ fn train_changes(rng: &mut Prng, line: &Line, i: usize, aim: Aim) -> Vec<Change>
             all
         }
         Aim::NoNext | Aim::BackNoNext(_) => {
-            let (wish, answered) = (wish_of(rng, aim), rng.chance(50));
-            vec![message_field(t, wish, answered, line.box_ahead(i))]
+            let (wish, stage) = (wish_of(rng, aim), stage_of(rng, aim));
+            vec![message_field(t, wish, stage, line.box_ahead(i))]
         }
-        Aim::WrongBox | Aim::BackWrongBox(_) => {
+        Aim::LostNoNext => {
+            let wish = wish_of(rng, aim);
+            vec![message_field(t, wish, Stage::Lost, line.box_ahead(i)), [b't', t, 1, train.front as u8 + 1]]
+        }
+        Aim::WrongBox | Aim::BackWrongBox(_) | Aim::LostWrongBox => {
             let any = rng.between(1, m) as u8;
             let number = rng.pick(&[0, m as u8 + 1, 255, any, line.box_behind(i), line.box_ahead(i)]);
-            let (wish, answered) = (wish_of(rng, aim), rng.chance(50));
-            vec![message_field(t, wish, answered, number)]
+            let (wish, stage) = (wish_of(rng, aim), stage_of(rng, aim));
+            vec![message_field(t, wish, stage, number)]
         }
-        Aim::LockHeard(code) => vec![message_field(t, Wish::Lock, true, line.box_ahead(i)), [b'm', t, 5, code]],
+        Aim::LockHeard(code) => {
+            vec![message_field(t, Wish::Lock, Stage::Answered, line.box_ahead(i)), [b'm', t, 5, code]]
+        }
+        Aim::ReservedAsked => held_message(rng, line, i, Wish::Reservation, Stage::Sent, &[t + 1]),
+        Aim::BackOfNone(_) => {
+            let others: Vec<u8> = (0..=line.trains.len() as u8).filter(|&holder| holder != t + 1).collect();
+            let wish = wish_of(rng, aim);
+            held_message(rng, line, i, wish, Stage::Sent, &others)
+        }
+        Aim::LostWaits => {
+            let (wish, any) = (rng.pick(&WISHES), rng.between(1, line.trains.len()) as u8);
+            held_message(rng, line, i, wish, Stage::Lost, &[0, t + 1, any])
+        }
+        Aim::Radio if rng.chance(20) => vec![[b'm', t, 0, 0]],
+        Aim::Radio => {
+            let wish = rng.pick(&WISHES);
+            message_change(rng, line, i, wish)
+        }
         _ => {
             let (ahead, wish) = (line.box_ahead(i), wish_of(rng, aim));
             let code = match aim {
                 Aim::BackCode(_) => rng.pick(&[1, 18, 22, 22, 23, 24, 25, 29, 255]),
                 _ => rng.pick(&[1, 15, 21, 22, 23, 24, 25, 26, 27, 29, 255]),
             };
-            vec![message_field(t, wish, true, ahead), [b'm', t, 5, code]]
+            vec![message_field(t, wish, Stage::Answered, ahead), [b'm', t, 5, code]]
         }
     }
+}
+
+/// The train has such a message, about the lock of the box ahead only where that is a point, and the box holds what it
+/// is about for one of these.
+fn held_message(rng: &mut Prng, line: &Line, i: usize, wish: Wish, stage: Stage, holders: &[u8]) -> Vec<Change> {
+    let Some((next, near, far, ahead)) = ends_of_next(line, i) else {
+        return vec![];
+    };
+    let wish = match wish {
+        Wish::Lock if !is_point(line, ahead) => Wish::Reservation,
+        Wish::LockBack if !is_point(line, ahead) => Wish::ReservationBack,
+        _ => wish,
+    };
+    let number = if wish.of_lock() { ahead } else { rng.pick(&[near, far]) };
+    let place = line.table.switch_box(number).and_then(|plan| plan.place_of(next)).unwrap_or(0);
+    let field = if wish.of_lock() { 2 } else { 3 + place as u8 };
+    vec![message_field(i as u8, wish, stage, number), [b'b', number - 1, field, rng.pick(holders)]]
 }
 
 /// The wish of an aim's message.
 fn wish_of(rng: &mut Prng, aim: Aim) -> Wish {
     match aim {
-        Aim::BackNoNext(kind) | Aim::BackWrongBox(kind) | Aim::BackCode(kind) => {
+        Aim::BackNoNext(kind) | Aim::BackWrongBox(kind) | Aim::BackCode(kind) | Aim::BackOfNone(kind) => {
             Wish::of_kind(kind).expect("the kind of a give-back")
         }
+        Aim::LostNoNext | Aim::LostWrongBox => rng.pick(&WISHES),
         _ => rng.pick(&[Wish::Reservation, Wish::Lock]),
+    }
+}
+
+/// What has become of an aim's message.
+fn stage_of(rng: &mut Prng, aim: Aim) -> Stage {
+    match aim {
+        Aim::LostWrongBox => Stage::Lost,
+        _ if rng.chance(50) => Stage::Answered,
+        _ => Stage::Sent,
     }
 }
 
@@ -344,8 +415,14 @@ fn joined_borders(table: &Table) -> Option<Vec<Change>> {
 /// is one.
 pub fn step_on(rng: &mut Prng, line: &Line, changes: &[Change], aim: Aim) -> Step {
     match (aim, changes) {
-        (Aim::LockAsked, &[[_, train, ..], ..]) => return [3, train + 1, 0],
+        (Aim::LockAsked | Aim::ReservedAsked | Aim::BackOfNone(_), &[[_, train, ..], ..]) => return [3, train + 1, 0],
         (Aim::LockHeard(_), &[[_, train, ..], ..]) => return [4, train + 1, 0],
+        (Aim::LostWaits, &[[_, train, ..], ..]) => {
+            let kind = rng.pick(&[1, 2, 3, 4, 5, 6, 7, 8, 9, 10, 10]);
+            let number = if matches!(kind, 1 | 2 | 7 | 8) { line.box_ahead(usize::from(train)) } else { 0 };
+            return [kind, train + 1, number];
+        }
+        (Aim::Radio, &[[_, train, ..], ..]) => return [rng.between(9, 10) as u8, train + 1, 0],
         _ => {}
     }
     let k = line.trains.len();
@@ -356,7 +433,7 @@ pub fn step_on(rng: &mut Prng, line: &Line, changes: &[Change], aim: Aim) -> Ste
     };
     let me = i as u8 + 1;
     if k == 0 || rng.chance(6) {
-        return [rng.below(11) as u8, rng.below(k + 2) as u8, rng.below(3) as u8];
+        return [rng.below(13) as u8, rng.below(k + 2) as u8, rng.below(3) as u8];
     }
     let m = line.boxes.len();
     let (near, far) = match ends_of_next(line, i) {
@@ -368,11 +445,13 @@ pub fn step_on(rng: &mut Prng, line: &Line, changes: &[Change], aim: Aim) -> Ste
     match line.trains[i].message {
         Message::Sent(_) if rng.chance(75) => [3, me, 0],
         Message::Answered(..) if rng.chance(75) => [4, me, 0],
-        _ => match rng.below(11) {
+        Message::Lost(_) if rng.chance(60) => [10, me, 0],
+        _ => match rng.below(13) {
             0..=3 => rng.pick(&requests),
             8..=10 => rng.pick(&backs),
             4 | 5 => [5, me, 0],
             6 => [6, me, 0],
+            11 | 12 => [rng.between(9, 10) as u8, me, 0],
             _ => [rng.between(3, 4) as u8, me, 0],
         },
     }

@@ -8,6 +8,7 @@ pub mod example;
 mod harmless;
 pub mod listing;
 pub mod lock_asked;
+pub mod lost;
 pub mod made_up;
 pub mod outside;
 pub mod prng;

@@ -1,9 +1,9 @@
-//! The smallest example of each code 1 to 29, found by search.
+//! The smallest example of each code 1 to 30, found by search.
 //!
 //! - Accepted files: fewer bytes are smaller, then lower bytes, the first that differs deciding.
 //! - Refused files (1 to 12 and 28): fewer bytes are smaller; then fewer places that differ from the smallest
 //!   accepted file, as far as both go, so that little but the fault is wrong; then lower bytes.
-//! - Steps (13 to 22, 24, 25 and 29): the smallest accepted file on which some list of steps has the code, and
+//! - Steps (13 to 22, 24, 25, 29 and 30): the smallest accepted file on which some list of steps has the code, and
 //!   the shortest such list; among lists of one length the one with the lowest bytes.
 //! - A sensor active with no other train's lock (23), which no list of steps leads to: the smallest accepted file
 //!   on which some list has the code after one field of a box in the start line's record was changed; the first
@@ -34,9 +34,9 @@ use std::collections::{HashSet, VecDeque};
 /// No example needs a longer file.
 const LONGEST: usize = 60;
 /// The codes that some list of steps has.
-const STEP_CODES: [u8; 13] = [13, 14, 15, 16, 17, 18, 19, 20, 21, 22, 24, 25, 29];
+const STEP_CODES: [u8; 14] = [13, 14, 15, 16, 17, 18, 19, 20, 21, 22, 24, 25, 29, 30];
 
-/// The examples of the codes 1 to 29, in the order of their numbers.
+/// The examples of the codes 1 to 30, in the order of their numbers.
 pub fn smallest_examples() -> Vec<Example> {
     let accepted = smallest_accepted();
     let refused = |code: u8| {
@@ -173,7 +173,7 @@ fn shortest_lists(start: &Line, codes: &[u8]) -> Vec<(u8, Vec<Step>)> {
 fn steps_of(table: &Table) -> Vec<Step> {
     let (k, m) = (table.trains.len() as u8, table.boxes.len() as u8);
     let trains = |kind| (0..=k + 1).flat_map(move |train| (0..=m + 1).map(move |number| [kind, train, number]));
-    (0..=9).flat_map(trains).collect()
+    (0..=11).flat_map(trains).collect()
 }
 
 /// The changes of a field of a box: box by box, field by field, the lowest value first.

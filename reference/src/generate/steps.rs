@@ -1,6 +1,7 @@
 //! Step lists: mostly what a driver would do next, with impatient and
 //! garbage steps among them. A driver gives something back now and then, to
-//! ask for it again or for another train that waits for it.
+//! ask for it again or for another train that waits for it. Messages are lost
+//! and, after a while in which other trains may go on, sent again.
 
 use super::prng::Prng;
 use crate::line::*;
@@ -18,24 +19,29 @@ pub struct Mix {
     /// message: giving something back for no reason, and giving back what
     /// another train waits for.
     pub back: [usize; 2],
+    /// Of the purposeful ones of a train whose message is under way: the
+    /// message is lost. With 0 there are no kinds 9 and 10.
+    pub lost: usize,
 }
 
-pub const MIXES: [Mix; 4] = [
-    Mix { purposeful: 96, impatient: 3, back: [1, 4] },
-    Mix { purposeful: 80, impatient: 17, back: [3, 10] },
-    Mix { purposeful: 50, impatient: 40, back: [6, 20] },
-    Mix { purposeful: 88, impatient: 10, back: [1, 30] },
+pub const MIXES: [Mix; 5] = [
+    Mix { purposeful: 96, impatient: 3, back: [1, 4], lost: 2 },
+    Mix { purposeful: 80, impatient: 17, back: [3, 10], lost: 6 },
+    Mix { purposeful: 50, impatient: 40, back: [6, 20], lost: 10 },
+    Mix { purposeful: 88, impatient: 10, back: [1, 30], lost: 5 },
+    Mix { purposeful: 90, impatient: 8, back: [2, 30], lost: 30 },
 ];
 /// Kinds of impatient steps.
-const KINDS: &[u8] = &[1, 1, 2, 2, 3, 4, 5, 5, 5, 6, 7, 7, 8];
-const KINDS_WITHOUT_BACK: &[u8] = &[1, 1, 2, 2, 3, 4, 5, 5, 6];
+const KINDS: &[u8] = &[1, 1, 2, 2, 3, 4, 5, 5, 5, 6, 7, 7, 8, 9, 10, 10];
+const KINDS_WITHOUT_LOSS: &[u8] = &[1, 1, 2, 2, 3, 4, 5, 5, 5, 6, 7, 7, 8];
+const FIRST_KINDS: &[u8] = &[1, 1, 2, 2, 3, 4, 5, 5, 6];
 
 /// Chooses steps one by one from the line as it stands.
 #[derive(Clone, Debug)]
 pub struct Driver {
     mix: Mix,
-    /// Whether kinds 7 and 8 are among the steps.
-    gives_back: bool,
+    /// The highest kind among the steps: 6, 8 or 10.
+    kinds: u8,
     current: usize,
     /// The train for which the current one has given something back.
     heir: Option<usize>,
@@ -48,13 +54,14 @@ impl Driver {
 
     /// A driver of this mix.
     pub fn of(mix: Mix) -> Self {
-        Driver { mix, gives_back: true, current: 0, heir: None }
+        Driver { mix, kinds: if mix.lost > 0 { 10 } else { 8 }, current: 0, heir: None }
     }
 
-    /// A driver that knows no kinds 7 and 8; a garbage step has 128 more in
-    /// their place.
-    pub fn without_back(rng: &mut Prng) -> Self {
-        Driver { gives_back: false, ..Driver::new(rng) }
+    /// A driver that knows the kinds 1 to 6 alone; a garbage step has 128 more
+    /// in the place of 7 to 10.
+    pub fn of_first_kinds(rng: &mut Prng) -> Self {
+        let mix = Mix { lost: 0, ..rng.pick(&MIXES) };
+        Driver { kinds: 6, ..Driver::of(mix) }
     }
 
     /// The next step.
@@ -68,6 +75,15 @@ impl Driver {
                 Some(step) if rng.chance(60) => return step,
                 _ => (self.current, self.heir) = (heir, None),
             }
+        }
+        if self.kinds > 8 && rng.chance(50) {
+            if let Some(step) = taking(line) {
+                return step;
+            }
+        }
+        // While a message is lost, another train goes on now and then.
+        if self.lost(line) && rng.chance(30) {
+            self.current = self.heir.take().unwrap_or_else(|| rng.below(k));
         }
         if self.current >= k || rng.chance(25) || finished(line, self.current) {
             self.current = rng.below(k);
@@ -91,9 +107,14 @@ impl Driver {
         line.trains.get(self.current).is_some_and(|t| t.message == Message::None)
     }
 
+    /// Whether the message of the current train is lost.
+    fn lost(&self, line: &Line) -> bool {
+        line.trains.get(self.current).is_some_and(|t| matches!(t.message, Message::Lost(_)))
+    }
+
     /// Something that the current train gives back, if it does.
     fn giving_back(&mut self, rng: &mut Prng, line: &Line) -> Option<Step> {
-        if !self.gives_back || !self.idle(line) {
+        if self.kinds < 8 || !self.idle(line) {
             return None;
         }
         let recorded = to_give_back(line, self.current);
@@ -169,14 +190,16 @@ fn to_give_back(line: &Line, train: usize) -> Vec<Step> {
 }
 
 /// A step by which the train gives back what another one needs, if there is
-/// any: next of both, or the lock of the box ahead of both.
+/// any: next of both, or the lock of the box ahead of both. What it has at the
+/// box ahead comes first, so that the other can get the lock.
 fn for_another(line: &Line, train: usize, other: usize) -> Option<Step> {
     let same_next = line.trains[train].next_segment() == line.trains[other].next_segment();
     let needs = needs(line, other);
     let needed = |&[kind, _, number]: &Step| {
         needs.iter().any(|&[need, _, at]| need == kind - 6 && at == number && (need == 2 || same_next))
     };
-    to_give_back(line, train).into_iter().find(|step| other != train && needed(step))
+    let given = to_give_back(line, train).into_iter().filter(|step| other != train && needed(step));
+    given.min_by_key(|&[_, _, number]| number != line.box_ahead(train))
 }
 
 impl Driver {
@@ -184,9 +207,14 @@ impl Driver {
     fn purposeful(&self, rng: &mut Prng, line: &Line) -> Step {
         let t = &line.trains[self.current];
         let me = (self.current + 1) as u8;
+        let under_way = matches!(t.message, Message::Sent(_) | Message::Answered(..));
+        if under_way && self.kinds > 8 && rng.chance(self.mix.lost) {
+            return [9, me, 0];
+        }
         match t.message {
             Message::Sent(_) => return [3, me, 0],
             Message::Answered(..) => return [4, me, 0],
+            Message::Lost(_) => return [10, me, 0],
             Message::None => {}
         }
         if t.crossing() && rng.chance(60) {
@@ -214,8 +242,12 @@ impl Driver {
             return step;
         }
         let me = (train + 1) as u8;
-        let kind = rng.pick(if self.gives_back { KINDS } else { KINDS_WITHOUT_BACK });
-        if (3..=6).contains(&kind) {
+        let kind = rng.pick(match self.kinds {
+            6 => FIRST_KINDS,
+            8 => KINDS_WITHOUT_LOSS,
+            _ => KINDS,
+        });
+        if matches!(kind, 3..=6 | 9 | 10) {
             return [kind, me, 0];
         }
         let t = &line.trains[train];
@@ -228,11 +260,11 @@ impl Driver {
     /// Any bytes, most of them near the limits.
     fn garbage(&self, rng: &mut Prng, line: &Line) -> Step {
         let kind = match rng.chance(80) {
-            true => rng.below(if self.gives_back { 10 } else { 8 }) as u8,
+            true => rng.below(usize::from(self.kinds) + 2) as u8,
             false => rng.byte(),
         };
         let kind = match kind {
-            7 | 8 if !self.gives_back => kind + 128,
+            7..=10 if kind > self.kinds => kind + 128,
             _ => kind,
         };
         let train = match rng.chance(80) {
@@ -248,6 +280,44 @@ impl Driver {
     }
 }
 
+/// A train asks for what another has given back, whose give-back is lost and
+/// which is free, after whatever message it has; for a lock it reserves next
+/// first.
+fn taking(line: &Line) -> Option<Step> {
+    let trains = 0..line.trains.len();
+    let lost_backs = trains.clone().filter_map(|giver| match line.trains[giver].message {
+        Message::Lost(request) if request.wish.gives_back() => Some((giver, request)),
+        _ => None,
+    });
+    lost_backs.into_iter().find_map(|(giver, Request { wish, number })| {
+        let given = line.trains[giver].next_segment();
+        let holder = match wish.of_lock() {
+            true => line.box_state(number)?.lock,
+            false => line.reservation(given?, number),
+        };
+        let step = |taker: usize| {
+            let needs = needs(line, taker);
+            let wanted = [wish as u8 - 6, taker as u8 + 1, number];
+            let same_next = wish.of_lock() || line.trains[taker].next_segment() == given;
+            let wants = taker != giver && same_next && needs.contains(&wanted);
+            let near = needs.into_iter().find(|&[kind, _, at]| wish.of_lock() && (kind, at) == (1, number));
+            wants.then(|| on_with(line, taker, near.unwrap_or(wanted)))
+        };
+        trains.clone().find_map(step).filter(|_| holder == 0)
+    })
+}
+
+/// The request of a train that has no message, else what brings its message on.
+fn on_with(line: &Line, train: usize, request: Step) -> Step {
+    let me = (train + 1) as u8;
+    match line.trains[train].message {
+        Message::None => request,
+        Message::Sent(_) => [3, me, 0],
+        Message::Answered(..) => [4, me, 0],
+        Message::Lost(_) => [10, me, 0],
+    }
+}
+
 /// A train asks for the lock of a point that another crosses or has locked,
 /// and is answered, after whatever message it has.
 fn meddling(line: &Line) -> Option<Step> {
@@ -256,10 +326,6 @@ fn meddling(line: &Line) -> Option<Step> {
         let state = line.box_state(ahead).filter(|_| is_point(line, ahead))?;
         let busy = state.sensor || (state.lock != 0 && state.lock != me);
         t.next_segment().filter(|_| busy)?;
-        Some(match t.message {
-            Message::None => [2, me, ahead],
-            Message::Sent(_) => [3, me, 0],
-            Message::Answered(..) => [4, me, 0],
-        })
+        Some(on_with(line, train, [2, me, ahead]))
     })
 }

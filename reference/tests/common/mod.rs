@@ -3,6 +3,7 @@
 
 pub mod page;
 
+use reference::demand::Checker;
 use reference::fast;
 use reference::fault::Fault;
 use reference::line::{start_line, Line};
@@ -11,6 +12,7 @@ use reference::refusal::Refusal;
 use reference::step::{step, step_checked, Step};
 use reference::table::{Segment, SwitchBox, Table, TrainEntry};
 use reference::table_read::read_table;
+use reference::table_write::file_bytes;
 
 pub const S: [u8; 46] = [
     0x4E, 0x45, 0x54, 0x00, 0x01, 0x04, 0x04, 0x02, 1, 2, 2, 3, 2, 3, 3, 4, 0, 1, 0, 0, 0, 2, 1, 2,
@@ -19,15 +21,14 @@ pub const S: [u8; 46] = [
 
 /// Faults in the steps that no list of steps from the start of an accepted table shows; the first two of them no
 /// made-up record shows either.
-pub const UNSEEN: [Fault; 8] = [
+pub const UNSEEN: [Fault; 7] = [
     Fault::NextBeforeMessage,
     Fault::RecordsKept,
-    Fault::OwnSegmentRefused,
     Fault::SensorNotAsked,
     Fault::ReservationsBeforeSensor,
     Fault::LockNeedsNextOnly,
-    Fault::BackMayBeRefused,
-    Fault::BackFreesAnyone,
+    Fault::RowsBeforeGranted,
+    Fault::RepeatSetsPosition,
 ];
 
 /// Table S with other trains.
@@ -70,6 +71,31 @@ pub fn go_on(line: &mut Line, steps: &[(Step, u8)]) {
         assert_eq!(step(line, bytes), code, "step {} {bytes:?}", i + 1);
         assert_eq!(*line, checked);
     }
+}
+
+/// Takes steps from the start line on, each with the code beside it, on both engines, with demand 3 checked.
+pub fn walk(table: &Table, steps: &[(Step, u8)]) -> Line {
+    let mut line = start_line(table);
+    let mut checker = Checker::new(table, &line);
+    let mut quick = fast::Line::NONE;
+    assert_eq!(quick.read(&file_bytes(table)), Ok(()));
+    for &(bytes, code) in steps {
+        go_on(&mut line, &[(bytes, code)]);
+        assert!(checker.observe(bytes, code, &line).is_empty(), "{bytes:?}");
+        assert_eq!(quick.step(bytes), code, "{bytes:?}");
+        assert!(same(&line, &quick), "{bytes:?}");
+    }
+    line
+}
+
+/// Two trains that both want segment 2, from either side.
+pub fn opposed() -> Table {
+    s_with(&[(0, &[1, 2, 4]), (1, &[4, 2, 1])])
+}
+
+/// Two trains side by side that both want segment 4.
+pub fn abreast() -> Table {
+    s_with(&[(0, &[2, 4]), (0, &[3, 4])])
 }
 
 /// Whether all trains and boxes of both engines' lines are the same.

@@ -16,7 +16,7 @@ use reference::table::Table;
 
 /// A step on a record that differs in a few places from one that steps have reached.
 pub fn made_up_case(rng: &mut Prng, case: u64, table: &Table, steps: usize) {
-    for change in 0..4 {
+    for change in 0..5 {
         let mut line = start_line(table);
         let length = rng.between(0, steps);
         drive(rng, &mut line, length);
@@ -24,6 +24,7 @@ pub fn made_up_case(rng: &mut Prng, case: u64, table: &Table, steps: usize) {
         match change {
             0 => alter_route(rng, &mut line),
             1 => meant = alter_for_back(rng, &mut line),
+            2 => meant = alter_for_radio(rng, &mut line),
             _ => (0..rng.between(1, 3)).for_each(|_| alter(rng, &mut line)),
         }
         if meant.is_none() && rng.chance(10) {
@@ -104,6 +105,42 @@ fn alter_for_back(rng: &mut Prng, line: &mut Line) -> Option<Step> {
     Some([kind, me, if kind < 7 { 0 } else { number }])
 }
 
+/// Gives a train that has a next any message, a lost one most often, with any holders at its box; the step that it is
+/// meant for: one that loses it or sends it again, its answer, or one that it stops.
+fn alter_for_radio(rng: &mut Prng, line: &mut Line) -> Option<Step> {
+    let (k, first) = (line.trains.len(), rng.below(line.trains.len()));
+    let i = (0..k).map(|i| (i + first) % k).find(|&i| line.trains[i].next_segment().is_some())?;
+    let (next, near, far, ahead) = ends_of_next(line, i)?;
+    let (me, any) = (i as u8 + 1, rng.between(1, k) as u8);
+    let wish = rng.pick(if is_point(line, ahead) { &WISHES } else { &[Wish::Reservation, Wish::ReservationBack] });
+    let number = if wish.of_lock() { ahead } else { rng.pick(&[near, far]) };
+    let holder = rng.pick(&[me, me, 0, any]);
+    match line.box_state_mut(number) {
+        Some(state) if wish.of_lock() => (state.lock, state.sensor) = (holder, rng.chance(30)),
+        _ => line.set_reservation(next, number, holder),
+    }
+    let request = Request { wish, number };
+    let no = match wish {
+        Wish::Reservation => 22,
+        Wish::Lock => 24,
+        _ => 0,
+    };
+    line.trains[i].message = match rng.below(10) {
+        0 | 1 => Message::Sent(request),
+        2 => Message::Answered(request, 0),
+        3 => Message::Answered(request, no),
+        4 => Message::None,
+        _ => Message::Lost(request),
+    };
+    Some(match rng.below(10) {
+        0..=2 => [9, me, 0],
+        3..=5 => [10, me, 0],
+        6 | 7 => [rng.between(3, 4) as u8, me, 0],
+        8 => [5, me, 0],
+        _ => [wish as u8, me, number],
+    })
+}
+
 /// Alters one part of a record, mostly into something that no steps reach.
 fn alter(rng: &mut Prng, line: &mut Line) {
     let k = line.trains.len();
@@ -154,9 +191,10 @@ fn alter(rng: &mut Prng, line: &mut Line) {
                 _ => rng.below(m + 2) as u8,
             };
             let request = Request { wish, number };
-            train.message = match rng.below(3) {
+            train.message = match rng.below(4) {
                 0 => Message::Sent(request),
                 1 => Message::Answered(request, 0),
+                2 => Message::Lost(request),
                 _ => Message::Answered(request, rng.between(21, 26) as u8),
             };
         }

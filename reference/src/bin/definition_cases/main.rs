@@ -1,7 +1,8 @@
 //! Prints generated cases as theorems about the definitions of the crate `rules`, each proved by
 //! computing: codes, stem sides and bytes of files, the writer's buffer, routes, printouts, lines, places,
 //! orders, atomic lines, atomic steps that are stopped, and single steps on records made up from lines that
-//! steps have reached, among them locks answered and heard, with all that a box can find in turn.
+//! steps have reached, among them locks answered and heard, with all that a box can find in turn, and messages that
+//! are lost and sent again.
 //! `tools/compare-definitions` has them checked.
 //! Arguments: seed, number of cases, steps per case.
 

@@ -15,7 +15,7 @@ use Prim.Native.Nat.{ℕ}
 use Rattle.rules.specs.declared.SwitchBox.{SwitchBox}
 use Rattle.rules.specs.declared.Request.the-variants.{Reserve, Lock, GiveBack, Unlock}
 use Rattle.rules.specs.declared.Message.{Message}
-use Rattle.rules.specs.declared.Message.the-variants.{Idle, Sent, Answered}
+use Rattle.rules.specs.declared.Message.the-variants.{Idle, Sent, Answered, Lost}
 use Rattle.rules.specs.declared.Train.{Train}
 use Rattle.rules.specs.declared.Line.{Line}
 use Rattle.rules.specs.Rows.{filled}
@@ -110,5 +110,6 @@ fn message_text(message: Message) -> String {
         Message::None => "Idle".into(),
         Message::Sent(asked) => format!("(Sent {})", request(asked)),
         Message::Answered(asked, code) => format!("(Answered {} {code})", request(asked)),
+        Message::Lost(asked) => format!("(Lost {})", request(asked)),
     }
 }

@@ -3,6 +3,7 @@
 use reference::counts::Counts;
 use reference::generate::listing::ListingCounts;
 use reference::generate::lock_asked::LockCounts;
+use reference::generate::lost::{LostCounts, StateCounts, Watched};
 use reference::generate::made_up::{Aim, AIMS};
 use reference::line::{start_line, Line};
 use reference::line_check::record_code;
@@ -52,6 +53,9 @@ pub struct Corpus {
     /// What boxes find that answer a lock, in lists and on made-up records.
     pub list_locks: LockCounts,
     pub made_up_locks: LockCounts,
+    /// What becomes of lost messages in lists; what message the steps of kinds 3, 4, 9 and 10 meet on made-up records.
+    pub lost: LostCounts,
+    pub made_up_states: StateCounts,
     /// How many made-up records have each aim.
     pub aims: Vec<usize>,
     /// What code 8 finds in the files that are made for it.
@@ -99,7 +103,7 @@ impl Corpus {
         self.records.extend_from_slice(steps);
         self.steps = steps.to_vec();
         let run = Run { file: self.base.clone(), steps: steps.to_vec() };
-        let answers = run_text(&mut self.text, &run, &mut self.list_locks);
+        let answers = run_text(&mut self.text, &run, &mut self.list_locks, &mut self.lost);
         for code in answers {
             self.list_codes[code as usize] += 1;
         }
@@ -109,7 +113,7 @@ impl Corpus {
     /// The line that the first `taken` bytes of the last list of steps lead to from the base file.
     pub fn line_after(&self, taken: usize) -> Line {
         let table = read_table(&self.base).expect("the base file is accepted");
-        run_steps(&table, &self.steps[..taken], &mut LockCounts::default()).0
+        run_steps(&table, &self.steps[..taken], &mut LockCounts::default(), &mut LostCounts::default()).0
     }
 
     /// A step on this line with changes; its code.
@@ -124,6 +128,7 @@ impl Corpus {
         self.made_up_codes[code as usize] += 1;
         if code != 27 {
             self.made_up_locks.add(&record.line(), bytes);
+            self.made_up_states.add(&record.line(), bytes);
         }
         self.aims[AIMS.iter().position(|&a| a == aim).expect("all aims are listed")] += 1;
         self.made_up.push(MadeUp { record, step: bytes });
@@ -169,14 +174,18 @@ fn answer<T>(result: &Result<T, Refusal>) -> String {
     result.as_ref().err().map_or("0".into(), |refusal| refusal.text(','))
 }
 
-/// The line after the steps in these bytes, and the answers, a last step of one or two bytes among them; locks are
-/// counted.
-fn run_steps(table: &Table, steps: &[u8], locks: &mut LockCounts) -> (Line, Vec<u8>) {
+/// The line after the steps in these bytes, and the answers, a last step of one or two bytes among them; locks and lost
+/// messages are counted.
+fn run_steps(table: &Table, steps: &[u8], locks: &mut LockCounts, lost: &mut LostCounts) -> (Line, Vec<u8>) {
     let mut line = start_line(table);
+    lost.start();
     let answer = |bytes: &[u8]| match bytes.try_into() {
         Ok(whole) => {
             locks.add(&line, whole);
-            step(&mut line, whole)
+            let watched = Watched::of(&line, whole);
+            let code = step(&mut line, whole);
+            lost.add(watched, whole, code);
+            code
         }
         Err(_) => 13,
     };
@@ -185,12 +194,12 @@ fn run_steps(table: &Table, steps: &[u8], locks: &mut LockCounts) -> (Line, Vec<
 }
 
 /// The line of the text for a list of steps; its answers.
-fn run_text(text: &mut String, run: &Run, locks: &mut LockCounts) -> Vec<u8> {
+fn run_text(text: &mut String, run: &Run, locks: &mut LockCounts, lost: &mut LostCounts) -> Vec<u8> {
     let count = run.steps.len().div_ceil(3);
     let table = read_table(&run.file);
     let (line, answers) = match &table {
         Err(_) => (Line::default(), vec![]),
-        Ok(table) => run_steps(table, &run.steps, locks),
+        Ok(table) => run_steps(table, &run.steps, locks, lost),
     };
     let mut buffer = answers.clone();
     buffer.resize(count + 1, UNUSED);

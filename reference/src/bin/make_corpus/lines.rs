@@ -25,7 +25,7 @@ const PASSING: usize = 28;
 const LOCKS: usize = 4;
 
 /// A request or a give-back, its answer, and the answer heard.
-fn asked(kind: u8, train: u8, number: u8) -> Vec<u8> {
+pub fn asked(kind: u8, train: u8, number: u8) -> Vec<u8> {
     vec![kind, train, number, 3, train, 0, 4, train, 0]
 }
 
@@ -265,7 +265,7 @@ fn try_aim(rng: &mut Prng, corpus: &mut Corpus, most: usize, aim: Aim) {
 }
 
 /// The line with changes; `None` where this implementation has no such record.
-fn made_up_line(before: &Line, changes: &[Change]) -> Option<Line> {
+pub fn made_up_line(before: &Line, changes: &[Change]) -> Option<Line> {
     let record = Record::changed(before, changes);
     let line = record.line();
     let same = record_fault(&line).is_some() || Record::of(&line).numbers() == record.numbers();

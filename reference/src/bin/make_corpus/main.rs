@@ -1,7 +1,7 @@
 //! Makes the corpus of the program `cases` and the text that it must write, with this
 //! implementation alone. The argument is a directory: the corpus goes to its file `stdin`, the text
 //! to its file `stdout`, and what they hold to standard error. It begins with the smallest example of
-//! each code 1 to 29 and ends with files in which code 8 finds one thing alone.
+//! each code 1 to 30 and ends with files in which code 8 finds one thing alone.
 //!
 //! The corpus is a list of records. Numbers of two bytes have the high byte first.
 //!
@@ -34,6 +34,7 @@ mod corpus;
 mod examples;
 mod files;
 mod lines;
+mod radio;
 
 use corpus::{Corpus, FEWEST};
 use files::FEWEST_FOUND;
@@ -49,6 +50,10 @@ const MOST_TEXT: usize = 600_000;
 /// How many steps of lists have each code that lists have at least, and how many boxes of lists answer 24 at least with
 /// the sensor active, and with it passive.
 const FEWEST_STEPS: usize = 20;
+/// How often each thing that can become of a lost message does in lists at least; how many steps of kinds 3, 4, 9 and
+/// 10 meet each state of a message on made-up records at least.
+const FEWEST_LOST: usize = 5;
+const FEWEST_STATES: usize = 4;
 
 /// The corpus, and how many files of its damaged part have each code.
 fn make() -> (Corpus, Counts) {
@@ -64,6 +69,8 @@ fn make() -> (Corpus, Counts) {
         *count -= sooner;
     }
     lines::paper_lists(&mut corpus);
+    radio::lists(&mut corpus);
+    radio::records(&mut corpus);
     lines::generated_lists(&mut corpus);
     lines::made_up_records(&mut corpus);
     files::listings(&mut corpus);
@@ -81,6 +88,8 @@ fn fault(corpus: &Corpus, aimed: &Counts) -> Option<String> {
         None if rare.is_some() => Some(format!("code {} has too few steps", rare?)),
         None if locked.iter().any(|&count| count < FEWEST_STEPS) => Some(format!("24 has too few steps: {locked:?}")),
         None if corpus.list_codes[23] > 0 => Some("a list of steps has code 23".into()),
+        None if corpus.lost.fewest() < FEWEST_LOST => Some("something becomes of lost messages too seldom".into()),
+        None if corpus.made_up_states.fewest() < FEWEST_STATES => Some("a message's state is met too seldom".into()),
         None if corpus.made_up_locks.fewest() == 0 => Some("boxes do not answer a lock in all ways".into()),
         None if unaimed.is_some() => Some(format!("{:?} has too few made-up records", AIMS[unaimed?])),
         None if corpus.listings.fewest() < FEWEST_FOUND => Some("code 8 finds something too seldom".into()),
@@ -121,6 +130,7 @@ fn print_counts(corpus: &Corpus, aimed: &Counts) {
         eprintln!("{code:4} {:6} {:6}", corpus.list_codes[code], corpus.made_up_codes[code]);
     }
     eprint!("lists: {}made-up records: {}", corpus.list_locks, corpus.made_up_locks);
+    eprint!("lists: {}made-up records: {}", corpus.lost, corpus.made_up_states);
     eprint!("files for code 8: {}", corpus.listings);
     eprintln!("made-up records by what they break");
     for (aim, count) in AIMS.iter().zip(&corpus.aims) {

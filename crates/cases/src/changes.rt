@@ -176,7 +176,7 @@ fn train_after(mut r: Train, kind: u8, field: u8, value: u8) -> Train {
 }
 
 // None; a reservation or a lock of box `value`, sent; the same, answered yes; the answer's code; a reservation or a lock given back to
-// box `value`, sent; the same, answered yes; or the message, lost.
+// box `value`, sent; the same, answered yes; or any of these four, lost.
 fn message_after(old: Message, field: u8, value: u8) -> Message {
     match field {
         0 => Message::Idle,
@@ -192,17 +192,10 @@ fn message_after(old: Message, field: u8, value: u8) -> Message {
         7 => Message::Sent(Request::Unlock(value)),
         8 => Message::Answered(Request::GiveBack(value), 0),
         9 => Message::Answered(Request::Unlock(value), 0),
-        10 => lost(old),
+        10 => Message::Lost(Request::Reserve(value)),
+        11 => Message::Lost(Request::Lock(value)),
+        12 => Message::Lost(Request::GiveBack(value)),
+        13 => Message::Lost(Request::Unlock(value)),
         _ => old,
-    }
-}
-
-// An open message, lost.
-fn lost(message: Message) -> Message {
-    match message {
-        Message::Idle => Message::Idle,
-        Message::Sent(q) => Message::Lost(q),
-        Message::Answered(q, _) => Message::Lost(q),
-        Message::Lost(q) => Message::Lost(q),
     }
 }

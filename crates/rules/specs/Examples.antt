@@ -3,7 +3,7 @@
 -- train 2 starts on 4 and goes over 3 to 1. Box 2 is a point with stem 1, left 2 and right 3, box 3 a point with stem 4, left 2
 -- and right 3; boxes 1 and 4 are borders, at the outer ends of 1 and 4.
 -- Steps are kind, train, box: 1 asks for next at a box, 2 for its lock, 3 the box answers, 4 the train hears, 5 Enter, 6 Clear, 7 gives
--- next back at a box, 8 its lock.
+-- next back at a box, 8 its lock, 9 loses what is under way, 10 sends the request again.
 use Prim.Native.Nat.{ℕ, _+_, _-_}
 use mathlib.Core.Bool.{Bool, true, false, cond}
 use mathlib.Core.List.{List, [], _∷_, _++_, map}
@@ -201,8 +201,46 @@ givenBack =
           };
     }
 
+-- A request of train i that is lost, sent again and answered, whose answer is lost too; it is sent again and answered again, and that is
+-- heard.
+unfoldable pub lostOnce : ℕ → ℕ → ℕ → List Step
+lostOnce kind i b =
+    stepOf kind i b ∷ stepOf 9 i 0 ∷ stepOf 10 i 0 ∷ stepOf 3 i 0 ∷ stepOf 9 i 0 ∷ stepOf 10 i 0 ∷ stepOf 3 i 0 ∷ stepOf 4 i 0 ∷ []
+
+-- Both trains go to their routes' ends, train 1 over 2 to 4 and train 2 over 3 to 1; `ask` has the steps of a request by its kind, train and
+-- box.
+unfoldable pub bothThrough : (ℕ → ℕ → ℕ → List Step) → List Step
+bothThrough ask =
+    ask 1 1 2 ++ ask 1 1 3 ++ ask 2 1 2 ++ (stepOf 5 1 0 ∷ stepOf 6 1 0 ∷ [])
+    ++ ask 1 2 3 ++ ask 1 2 2 ++ ask 2 2 3 ++ (stepOf 5 2 0 ∷ stepOf 6 2 0 ∷ [])
+    ++ ask 1 1 3 ++ ask 1 1 4 ++ ask 2 1 3 ++ (stepOf 5 1 0 ∷ stepOf 6 1 0 ∷ [])
+    ++ ask 1 2 2 ++ ask 1 2 1 ++ ask 2 2 2 ++ (stepOf 5 2 0 ∷ stepOf 6 2 0 ∷ [])
+
+-- Its order has each request once, and after it train 1 is on 4 and train 2 on 1, each with its segment reserved at the border ahead.
+unfoldable pub throughOrder : List Step
+throughOrder = bothThrough (λ kind i b. stepOf kind i b ∷ [])
+
+unfoldable pub throughScene : Scene
+throughScene =
+    record {
+      trains = record { front = 4; tail = 0 } ∷ record { front = 1; tail = 0 } ∷ [];
+      boxes =
+          record { sensor = false; position = 0; lock = 0; stem = 2; left = 0; right = 0 }
+          ∷ record { sensor = false; position = 2; lock = 0; stem = 0; left = 0; right = 0 }
+          ∷ record { sensor = false; position = 1; lock = 0; stem = 0; left = 0; right = 0 }
+          ∷ record { sensor = false; position = 0; lock = 0; stem = 1; left = 0; right = 0 }
+          ∷ [];
+    }
+
+-- So it is where no message is lost, and so it is where every request and every answer is lost once.
+unfoldable pub undisturbed : Example
+undisturbed = record { events = allowed (bothThrough asked); order = throughOrder; scene = throughScene }
+
+unfoldable pub losing : Example
+losing = record { events = allowed (bothThrough lostOnce); order = throughOrder; scene = throughScene }
+
 unfoldable pub examples : List Example
-examples = delayed ∷ held ∷ locked ∷ givenBack ∷ []
+examples = delayed ∷ held ∷ locked ∷ givenBack ∷ undisturbed ∷ losing ∷ []
 
 -- What code 9 keeps out. Segment 1 runs from box 1 to box 2 and segment 2 back, and 3 leads away at box 2, a point with stem 1. Train
 -- 1 goes round, 1, 2, 1; train 2 comes from 3. While train 1 crosses box 2, its tail 1 is also its next: box 2 has 1 reserved for

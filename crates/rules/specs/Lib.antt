@@ -35,6 +35,7 @@ pub mod Printout
 pub mod Cases
 pub mod FileCases
 pub mod StepCases
+pub mod RadioCases
 pub mod RunCases
 pub mod RecordCases
 -- Examples of what demand 3 says.

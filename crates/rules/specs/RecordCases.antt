@@ -6,7 +6,7 @@ use mathlib.Core.List.{List, [], _∷_, _++_}
 use lib.ListN.{set, replicate}
 use Rattle.rules.specs.declared.Request.the-variants.{Reserve, Lock, GiveBack, Unlock}
 use Rattle.rules.specs.declared.Message.{Message}
-use Rattle.rules.specs.declared.Message.the-variants.{Idle, Sent, Answered}
+use Rattle.rules.specs.declared.Message.the-variants.{Idle, Sent, Answered, Lost}
 use Rattle.rules.specs.declared.SwitchBox.{SwitchBox}
 use Rattle.rules.specs.declared.Train.{Train}
 use Rattle.rules.specs.declared.Line.{Line}
@@ -18,6 +18,7 @@ use Rattle.rules.specs.Safety.{reached}
 use Rattle.rules.specs.Cases.{Question, writtenTo, checked, checkedTrain, checkedBox, checkedLine, lineNumbers, Case, _gives_, stepOf, tableS, oneStart, ring, paperCases}
 use Rattle.rules.specs.FileCases.{linked, fileCases}
 use Rattle.rules.specs.StepCases.{crossing, stepCases}
+use Rattle.rules.specs.RadioCases.{radioCases}
 use Rattle.rules.specs.RunCases.{runCases, lentCases}
 
 -- Records made up by hand: table S at its start with another train 1, another box, or other routes.
@@ -176,6 +177,14 @@ recordCases =
     ∷ heardOn (withTrain 0 3 1 1 (Answered (GiveBack 2) 22)) gives (27 ∷ [])
     ∷ heardOn (withTrain 0 3 1 1 (Answered (Unlock 2) 0)) gives (0 ∷ [])
     ∷ heardOn (withTrain 0 3 1 1 (Answered (Unlock 2) 24)) gives (27 ∷ [])
+    -- Lost messages: 16 and 17 as for requests on their way, and no answer.
+    ∷ heardOn (withTrain 0 3 1 1 (Lost (Reserve 3))) gives (21 ∷ [])
+    ∷ heardOn (withTrain 0 3 3 1 (Lost (Reserve 3))) gives (27 ∷ [])
+    ∷ heardOn (withTrain 0 3 1 1 (Lost (Reserve 4))) gives (27 ∷ [])
+    ∷ heardOn (withTrain 0 3 1 1 (Lost (Lock 3))) gives (27 ∷ [])
+    ∷ heardOn (withTrain 0 3 1 1 (Lost (GiveBack 2))) gives (21 ∷ [])
+    ∷ heardOn (withTrain 0 3 1 1 (Lost (GiveBack 4))) gives (27 ∷ [])
+    ∷ heardOn (withTrain 0 3 1 1 (Lost (Unlock 3))) gives (27 ∷ [])
     -- 27 before 13, and the record as it was.
     ∷ checked emptyLine (stepOf 0 0 0) gives (27 ∷ [])
     ∷ checkedTrain (withTrain 0 3 1 2 (Sent (Reserve 2))) (stepOf 3 1 0) 1
@@ -208,6 +217,12 @@ openAtEnter =
 abbrev pub boxSensed : Line → Line
 boxSensed l = putBox l 2 (sensed (boxAt l 2))
 
+-- Train 1 asks for the lock of box 2, which is its own already, and the point does not join 1 and 2.
+abbrev pub lyingOtherwise : Line
+lyingOtherwise =
+    putBox (withTrain 0 3 1 1 (Sent (Lock 2))) 2
+    (record { sensor = false; position = 2; lock = 1; stem = 1; left = 1; right = 0 })
+
 -- Train 1 with another route as it stands: 1, 3, 4, and back over 4, 2, 1. It asks box 2 for the lock, or box 3 for a
 -- reservation of its next segment.
 abbrev pub overRight : Message → Line
@@ -234,6 +249,13 @@ madeUpCases =
     ∷ checkedBox (goingBack (Sent (Reserve 3))) (stepOf 3 1 0) 3 gives (0 ∷ 0 ∷ 1 ∷ 0 ∷ 2 ∷ 1 ∷ 0 ∷ [])
     -- 25 by the front alone.
     ∷ checked (asking (Sent (Lock 2)) 0 0 1) (stepOf 3 1 0) gives (25 ∷ [])
+    -- What the box has for the train already is a yes before 25 and 23, and nothing changes, not the position either.
+    ∷ checkedBox (asking (Sent (Reserve 2)) 0 1 1) (stepOf 3 1 0) 2 gives (0 ∷ 0 ∷ 1 ∷ 0 ∷ 1 ∷ 1 ∷ 0 ∷ [])
+    ∷ checkedBox (asking (Sent (Lock 2)) 1 1 1) (stepOf 3 1 0) 2 gives (0 ∷ 0 ∷ 1 ∷ 1 ∷ 1 ∷ 1 ∷ 0 ∷ [])
+    ∷ checkedBox (asking (Sent (Lock 2)) 1 0 2) (stepOf 3 1 0) 2 gives (0 ∷ 0 ∷ 1 ∷ 1 ∷ 0 ∷ 2 ∷ 0 ∷ [])
+    ∷ checkedBox (boxSensed (asking (Sent (Lock 2)) 1 1 1)) (stepOf 3 1 0) 2 gives (0 ∷ 1 ∷ 1 ∷ 1 ∷ 1 ∷ 1 ∷ 0 ∷ [])
+    ∷ checkedBox lyingOtherwise (stepOf 3 1 0) 2 gives (0 ∷ 0 ∷ 2 ∷ 1 ∷ 1 ∷ 1 ∷ 0 ∷ [])
+    ∷ checkedTrain lyingOtherwise (stepOf 3 1 0) 1 gives (0 ∷ 0 ∷ 3 ∷ 1 ∷ 1 ∷ 0 ∷ 0 ∷ 0 ∷ 2 ∷ 2 ∷ 2 ∷ 0 ∷ [])
     -- 23: the sensor is active, and the lock is free, whatever is reserved. Another's lock is 24, before 23 and 25. The answer is on its
     -- way, and the box is as it was. Heard, it leaves nothing recorded.
     ∷ checked (boxSensed (asking (Sent (Lock 2)) 0 1 1)) (stepOf 3 1 0) gives (23 ∷ [])
@@ -263,6 +285,15 @@ madeUpCases =
     ∷ checkedBox (asking (Sent (Unlock 2)) 2 1 1) (stepOf 3 1 0) 2 gives (0 ∷ 0 ∷ 1 ∷ 2 ∷ 1 ∷ 1 ∷ 0 ∷ [])
     ∷ checkedTrain (asking (Sent (Unlock 2)) 2 1 1) (stepOf 3 1 0) 1 gives (0 ∷ 0 ∷ 3 ∷ 1 ∷ 1 ∷ 0 ∷ 0 ∷ 0 ∷ 2 ∷ 8 ∷ 2 ∷ 0 ∷ [])
     ∷ checkedTrain (withTrain 0 3 1 1 (Answered (GiveBack 2) 0)) (stepOf 4 1 0) 1 gives (0 ∷ 0 ∷ 3 ∷ 1 ∷ 1 ∷ replicate 7 0)
+    -- A request on its way and an answer are lost, with its code; a lost request is sent again. Nothing else changes, nor when 30 refuses.
+    ∷ checkedTrain (asking (Sent (Lock 2)) 0 1 1) (stepOf 9 1 0) 1 gives (0 ∷ 0 ∷ 3 ∷ 1 ∷ 1 ∷ 0 ∷ 0 ∷ 0 ∷ 3 ∷ 2 ∷ 2 ∷ 0 ∷ [])
+    ∷ checkedTrain (asking (Answered (Reserve 2) 22) 0 1 2) (stepOf 9 1 0) 1 gives (0 ∷ 0 ∷ 3 ∷ 1 ∷ 1 ∷ 0 ∷ 0 ∷ 0 ∷ 3 ∷ 1 ∷ 2 ∷ 0 ∷ [])
+    ∷ checkedTrain (asking (Answered (GiveBack 2) 0) 0 1 0) (stepOf 9 1 0) 1 gives (0 ∷ 0 ∷ 3 ∷ 1 ∷ 1 ∷ 0 ∷ 0 ∷ 0 ∷ 3 ∷ 7 ∷ 2 ∷ 0 ∷ [])
+    ∷ checkedTrain (asking (Lost (Unlock 2)) 1 1 1) (stepOf 10 1 0) 1 gives (0 ∷ 0 ∷ 3 ∷ 1 ∷ 1 ∷ 0 ∷ 0 ∷ 0 ∷ 1 ∷ 8 ∷ 2 ∷ 0 ∷ [])
+    ∷ checkedBox (asking (Answered (Lock 2) 0) 1 1 1) (stepOf 9 1 0) 2 gives (0 ∷ 0 ∷ 1 ∷ 1 ∷ 1 ∷ 1 ∷ 0 ∷ [])
+    ∷ checkedBox (asking (Lost (Unlock 2)) 1 1 1) (stepOf 10 1 0) 2 gives (0 ∷ 0 ∷ 1 ∷ 1 ∷ 1 ∷ 1 ∷ 0 ∷ [])
+    ∷ checkedTrain (asking (Lost (Lock 2)) 0 1 1) (stepOf 9 1 0) 1 gives (30 ∷ 0 ∷ 3 ∷ 1 ∷ 1 ∷ 0 ∷ 0 ∷ 0 ∷ 3 ∷ 2 ∷ 2 ∷ 0 ∷ [])
+    ∷ checkedTrain (asking (Answered (Lock 2) 25) 0 0 1) (stepOf 10 1 0) 1 gives (30 ∷ 0 ∷ 3 ∷ 1 ∷ 1 ∷ 0 ∷ 0 ∷ 0 ∷ 2 ∷ 2 ∷ 2 ∷ 25 ∷ [])
     -- Clear frees whoever holds, and keeps position, third segment and records.
     ∷ checkedBox heldByOther (stepOf 6 1 0) 2 gives (0 ∷ 0 ∷ 2 ∷ 0 ∷ 0 ∷ 0 ∷ 2 ∷ [])
     ∷ checkedTrain heldByOther (stepOf 6 1 0) 1 gives (0 ∷ 0 ∷ 3 ∷ 2 ∷ 1 ∷ 1 ∷ 0 ∷ 1 ∷ 0 ∷ 0 ∷ 0 ∷ 0 ∷ [])
@@ -282,4 +313,4 @@ madeUpCases =
 
 -- All cases.
 unfoldable pub cases : List Case
-cases = paperCases ++ fileCases ++ stepCases ++ runCases ++ lentCases ++ recordCases ++ madeUpCases
+cases = paperCases ++ fileCases ++ stepCases ++ radioCases ++ runCases ++ lentCases ++ recordCases ++ madeUpCases

@@ -91,8 +91,8 @@ fn holds_both(v: Around, p: BoxPlan, x: SwitchBox) -> bool
 fn lock_code(v: Around, p: BoxPlan, x: SwitchBox) -> u8
     ensures { λ c. ⌜ ((b : ℕ) → c ≡ first (grantRows v p x (LockAt b))) ⌝ }
 {
-    let locked = another(v.number, x.lock);
-    if locked {
+    let held = another(v.number, x.lock);
+    if held {
         return 24;
     }
     if x.sensor {
@@ -131,11 +131,11 @@ pub fn box_code(v: Around, p: BoxPlan, x: SwitchBox, q: Request) -> u8
     if gives_back(q) {
         return YES;
     }
-    let h = holding_of(q);
-    if stands(v, p, x, h) {
+    let about = holding_of(q);
+    if stands(v, p, x, about) {
         return YES;
     }
-    grant_code(v, p, x, h)
+    grant_code(v, p, x, about)
 }
 
 // Segments s and z are y and w, in this order.
@@ -215,7 +215,7 @@ fn taken_back(v: Around, p: BoxPlan, x: SwitchBox, h: Holding) -> SwitchBox
 }
 
 // The box once it is the train's: as it was, if it was so already.
-fn held(v: Around, p: BoxPlan, x: SwitchBox, h: Holding) -> SwitchBox
+fn made_own(v: Around, p: BoxPlan, x: SwitchBox, h: Holding) -> SwitchBox
     ensures { λ y. ⌜ y ≡ cond (stands v p x h) x (given v p x h) ⌝ }
 {
     if stands(v, p, x, h) {
@@ -232,7 +232,7 @@ pub fn granted(v: Around, p: BoxPlan, x: SwitchBox, q: Request) -> SwitchBox
     if gives_back(q) {
         return taken_back(v, p, x, h);
     }
-    held(v, p, x, h)
+    made_own(v, p, x, h)
 }
 
 // The box that a train has passed: sensor passive, lock free, the reservations of both segments free.

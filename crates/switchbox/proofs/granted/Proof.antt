@@ -14,7 +14,7 @@ returns-2 : tie.Need-returns-2
 unfolding granted
 returns-2 c =
     let asked = c .before .before in
-    rw (← asked .gives-back .ensures, c .before .if1 .left, ← asked .before .holding-of .ensures) (c .held .ensures)
+    rw (← asked .gives-back .ensures, c .before .if1 .left, ← asked .before .holding-of .ensures) (c .made-own .ensures)
 
 pub granted-spec : {M : Type 1} → statement M
 granted-spec =

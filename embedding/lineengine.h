@@ -41,7 +41,7 @@ extern "C" {
  * but for steps of kinds that were answered 13: these may be given a meaning. The first grows, and the second is 0 again, when a
  * name, a parameter, a code, a size or a promise changes. This is not the version in the head of a table. */
 #define LINEENGINE_VERSION_MAJOR 3
-#define LINEENGINE_VERSION_MINOR 0
+#define LINEENGINE_VERSION_MINOR 1
 
 /* The bytes of stack that are enough for any call. */
 #define LINEENGINE_STACK 65536
@@ -68,9 +68,9 @@ enum lineengine_code {
     LINEENGINE_START_SHARED = 12,          /* two trains start on one segment */
 
     /* A step is refused; only in `answers`. Nothing has changed. */
-    LINEENGINE_NO_SUCH_STEP = 13,          /* no such kind, a box byte that is not 0 in kinds 3 to 6, or a last step cut short */
+    LINEENGINE_NO_SUCH_STEP = 13,          /* no such kind, a box byte in kinds 3 to 6, 9 or 10, or a last step cut short */
     LINEENGINE_NO_SUCH_TRAIN = 14,         /* the train byte is 0 or above the number of trains */
-    LINEENGINE_REQUEST_OPEN = 15,          /* the train's last request or give-back is not yet answered and heard */
+    LINEENGINE_REQUEST_OPEN = 15,          /* the train's last request or give-back is not yet answered and heard, or is lost */
     LINEENGINE_ROUTE_ENDED = 16,           /* the route has no next segment */
     LINEENGINE_NOT_THE_BOX_TO_ASK = 17,    /* no end of the next segment; for a lock, not the point ahead */
     LINEENGINE_HELD_ALREADY = 18,          /* the train has that reservation or lock */
@@ -78,6 +78,7 @@ enum lineengine_code {
     LINEENGINE_HOLDING_MISSING = 19,       /* the train enters without a reservation or the lock that it needs */
     LINEENGINE_MOVE_OUT_OF_TURN = 20,      /* the train enters while it crosses a box, or clears while it crosses none */
     LINEENGINE_NO_MESSAGE = 21,            /* there is nothing to answer, or nothing to hear */
+    LINEENGINE_NOTHING_TO_REPEAT = 30,     /* there is nothing to lose, or nothing to send again */
 
     /* A box says no to a train; only in `answers`, when the box answers and when the train hears. */
     LINEENGINE_SEGMENT_RESERVED = 22,      /* the segment is reserved for another train */

@@ -21,14 +21,20 @@ ghost use Rattle.rules.specs.Track.{noBoxPlan};
 ghost use Rattle.rules.specs.Line.{noBox};
 ghost use Rattle.rules.specs.Steps.{formRows, concernedBox, alone, effect};
 
-// Code 13 of a kind that has no box byte.
-fn no_byte_code(at: u8) -> u8
-    ensures { λ c. ⌜ c ≡ cond (eqb at 0) 0 13 ⌝ }
+// Code 13 of kinds 1 to 10: kinds 3 to 6, 9 and 10 have no box byte.
+fn byte_code(kind: u8, at: u8) -> u8
+    requires { ⌜ 1 ≤ kind ⌝ }
+    requires { ⌜ kind ≤ 10 ⌝ }
+    ensures { λ c. ⌜ c ≡ first (formRows kind at) ⌝ }
 {
-    if at != 0 {
-        return 13;
+    if at == 0 {
+        return 0;
     }
-    0
+    match kind {
+        3..=6 => 13,
+        9..=10 => 13,
+        _ => 0,
+    }
 }
 
 // Code 13: kinds 1, 2, 7 and 8 have a box byte, kinds 3 to 6, 9 and 10 have none, and there is no other kind.
@@ -36,10 +42,7 @@ pub fn form_code(kind: u8, at: u8) -> u8
     ensures { λ c. ⌜ c ≡ first (formRows kind at) ⌝ }
 {
     match kind {
-        1..=2 => 0,
-        3..=6 => no_byte_code(at),
-        7..=8 => 0,
-        9..=10 => no_byte_code(at),
+        1..=10 => byte_code(kind, at),
         _ => 13,
     }
 }
@@ -75,10 +78,8 @@ pub fn alone(kind: u8, at: u8, v: Around, r: Train, x: SwitchBox) -> Effect
         1 => requests::ask(v, r, x, Request::Reserve(at)),
         2 => requests::ask(v, r, x, Request::Lock(at)),
         4 => requests::hear(v, r, x),
-        9 => radio::lose(r, x),
-        10 => radio::send_again(r, x),
         7..=8 => requests::send(v, r, x, returned(kind, at)),
-        _ => Effect::Refused(13),
+        _ => radio::decide(kind, r, x),
     }
 }
 

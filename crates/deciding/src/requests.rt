@@ -34,7 +34,7 @@ pub(crate) fn ask(v: Around, r: Train, x: SwitchBox, q: Request) -> Effect
     Effect::Changed(0, traincomputer::with_message(r, Message::Sent(q)), x)
 }
 
-// The box answers a request: a yes is carried out, a no leaves it as it was.
+// The box answers a request: a yes is carried out, if it is not yet; a no leaves it as it was.
 fn reply(v: Around, r: Train, p: BoxPlan, x: SwitchBox, q: Request) -> Effect
     ensures { λ d. ⌜ d ≡ reply v r p x q ⌝ }
 {

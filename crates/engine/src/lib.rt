@@ -20,7 +20,7 @@ pub fn run(file: &[u8], steps: &[u8], answers: &mut [u8]) -> FileOutcome
     running::run(file, steps, answers)
 }
 
-// A single step on any line record: 27 first, then 13, 14 and the rows of the step's kind. With 13 to 21, 27 and 29 the line is as it
+// A single step on any line record: 27 first, then 13, 14 and the rows of the step's kind. With 13 to 21, 27, 29 and 30 the line is as it
 // was.
 pub fn step(mut line: Line, kind: u8, train: u8, number: u8) -> Outcome
     ensures { λ r. ⌜ r ≡ checkedStep line (record { kind = kind; train = train; box = number }) ⌝ }

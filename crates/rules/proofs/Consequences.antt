@@ -67,7 +67,7 @@ consequences bytes e steps =
       heardYes = λ i k q c. yes-heard h (known i k);
       returned = returned kept h;
       again = again kept l h;
-      once = λ i. once i kept l h;
+      once = once kept l h;
       otherTrains = λ s. other-trains (does (reached t steps) s);
       otherBoxes = λ s. other-boxes (does (reached t steps) s);
     }

@@ -65,7 +65,7 @@ pub record Still (x y : SwitchBox) : Type 0 where
 unmoved : {x y : SwitchBox} → y .position ≡ x .position → Still x y
 unmoved e = record { before = λ _. e; after = λ _. e }
 
--- A box that grants a request: row 23 stops a lock where the sensor is active.
+-- A box that gives what is asked for: row 23 stops a lock where the sensor is active.
 given-still : (v : Around) (p : BoxPlan) (x : SwitchBox) (h : Holding) → first (grantRows v p x h) ≡ 0 → Still x (given v p x h)
 unfolding given setHolder
 given-still v p x (NextAt b) e = unmoved refl

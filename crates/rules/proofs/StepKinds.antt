@@ -29,20 +29,13 @@ use Rattle.rules.proofs.Tests.{cond-each, EachCode, each-code, outside-
 use Rattle.rules.proofs.Steps.{formed-iff, step-row-iff}
 use Rattle.rules.proofs.Frames.{put, train-alone}
 
--- A request is of none of the kinds 3 to 6, nor of one above 8.
+-- A request is of none of the kinds 3 to 6.
 pub request-kind : (q : Request) (kind : ℕ) → 3 ≤ kind → kind ≤ 6 → requestKind q ≢ kind
 unfolding requestKind
 request-kind (Reserve b) kind low high e = omega arith
 request-kind (Lock b) kind low high e = omega arith
 request-kind (GiveBack b) kind low high e = omega arith
 request-kind (Unlock b) kind low high e = omega arith
-
-pub request-most : (q : Request) → requestKind q ≤ 8
-unfolding requestKind
-request-most (Reserve b) = omega arith
-request-most (Lock b) = omega arith
-request-most (GiveBack b) = omega arith
-request-most (Unlock b) = omega arith
 
 -- Kind 1, 2, 7 or 8 sends its request.
 pub record Sends (l : Line) (s : Step) (q : Request) : Type 0 where

@@ -28,10 +28,12 @@ Kept = ℕ → Option Step
 unfoldable pub isRequest : Step → Bool
 isRequest s = eqb (s .kind) 1 || eqb (s .kind) 2 || eqb (s .kind) 7 || eqb (s .kind) 8
 
+-- The event is a request of train i, accepted.
+unfoldable pub requests : ℕ → Event → Bool
+requests i e = isRequest (e .step) && eqb (e .step .train) i && eqb (e .answer) 0
+
 unfoldable pub keep : Kept → Event → Kept
-keep kept e i =
-    cond (isRequest (e .step) && eqb (e .step .train) i && eqb (e .answer) 0) (some (e .step))
-    (cond (accepted 3 i e) none (kept i))
+keep kept e i = cond (requests i e) (some (e .step)) (cond (accepted 3 i e) none (kept i))
 
 unfoldable pub keptBy : Kept → List Event → Kept
 keptBy kept [] = kept
@@ -60,7 +62,7 @@ order es = orderFrom noneKept es
 abbrev pub keptAfter : List Event → Kept
 keptAfter es = keptBy noneKept es
 
--- Whether the last request of train i that was answered 0 has been granted, if there is one.
+-- The last request of train i that was answered 0 has been granted, or there is none.
 unfoldable pub isGranted : Kept → ℕ → Bool
 isGranted kept i = Option·elim (kept i) true (λ s. false)
 

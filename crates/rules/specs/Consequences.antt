@@ -17,36 +17,25 @@ use Rattle.rules.specs.Line.{startLine, boxAt, trainAt, holding, givesBa
 use Rattle.rules.specs.Steps.{Step, step}
 use Rattle.rules.specs.Record.{recordFault, checkedStep}
 use Rattle.rules.specs.History.{Event, lineAfter, events, accepted}
-use Rattle.rules.specs.Atomic.{isRequest, keptAfter, isGranted}
+use Rattle.rules.specs.Atomic.{requests, keptAfter, isGranted}
 use Rattle.rules.specs.Safety.{TrainOf, reached, history, whereIs, atomic, CrossesBox}
 use Rattle.rules.specs.Invariant.{Granted, believed, heldFor, Invariant}
 
--- Some event of a list is of this sort; all steps of a list are.
+-- Some event of a list is of this sort.
 unfoldable pub someEvent : (Event → Bool) → List Event → Bool
 someEvent f [] = false
 someEvent f (e ∷ rest) = f e || someEvent f rest
 
-unfoldable pub allSteps : (Step → Bool) → List Step → Bool
-allSteps f [] = true
-allSteps f (s ∷ rest) = f s && allSteps f rest
-
--- The event is train i's accepted request for holding z; it is an accepted request of train i, give-backs among them.
+-- The event is train i's accepted request for holding z.
 unfoldable pub asksFor : ℕ → Holding → Event → Bool
 asksFor i (NextAt b) e = accepted 1 i e && eqb (e .step .box) b
 asksFor i (LockAt b) e = accepted 2 i e && eqb (e .step .box) b
 
-unfoldable pub requests : ℕ → Event → Bool
-requests i e = isRequest (e .step) && eqb (e .step .train) i && eqb (e .answer) 0
+-- The step in which the box of train i's message answers.
+abbrev pub answerStep : ℕ → Step
+answerStep i = record { kind = 3; train = i; box = 0 }
 
--- The step lets train i's message be answered, lose it or sends it again: kinds 3, 9 and 10.
-unfoldable pub retries : ℕ → Step → Bool
-retries i s = eqb (s .train) i && (eqb (s .kind) 3 || eqb (s .kind) 9 || eqb (s .kind) 10)
-
--- The step that lets the box of train i's message answer.
-abbrev pub answering : ℕ → Step
-answering i = record { kind = 3; train = i; box = 0 }
-
--- Which trains' last requests have been granted after a list of steps, by steps and answers alone.
+-- Whether each train's last request has been granted after a list of steps, by steps and answers alone; so it is of one that made none.
 abbrev pub grantedAfter : Table → List Step → Granted
 grantedAfter t steps = isGranted (keptAfter (history t steps))
 
@@ -80,20 +69,21 @@ pub record Consequences (t : Table) (steps : List Step) : Type 0 where
       → trainAt (reached t steps) (s .train) .message ≡ Sent q → givesBack q ≡ true → (more : List Step)
       → someEvent (asksFor (s .train) (holding q)) (events step (step (reached t steps) s .line) more) ≡ false
       → heldFor (lineAfter step (step (reached t steps) s .line) more) (s .train) (holding q) ≡ false
-  -- What a box has said yes to it says yes to again, and no box changes, until the train makes another request: so a yes that was lost can
-  -- be had again.
+  -- What a box has said yes to it says yes to again, and no box changes, whatever comes between but another request of the train: so a yes
+  -- that was lost can be had again.
   pub again
-      : (s : Step) → s .kind ≡ 3 → step (reached t steps) s .code ≡ 0 → (more : List Step)
-      → someEvent (requests (s .train)) (events step (step (reached t steps) s .line) more) ≡ false
-      → let l = lineAfter step (step (reached t steps) s .line) more in
-      (q : Request) → trainAt l (s .train) .message ≡ Sent q
-      → (step l (answering (s .train)) .code ≡ 0) × (step l (answering (s .train)) .line .boxes ≡ l .boxes)
-  -- However often a request is lost, sent again and answered, the boxes change at most once: of two lists of such steps, one after the other,
-  -- one changes no box.
+      : (i : ℕ) → let now = step (reached t steps) (answerStep i) in now .code ≡ 0 → (between : List Step)
+      → someEvent (requests i) (events step (now .line) between) ≡ false
+      → let later = lineAfter step (now .line) between in
+      (q : Request) → trainAt later i .message ≡ Sent q
+      → (step later (answerStep i) .code ≡ 0) × (step later (answerStep i) .line .boxes ≡ later .boxes)
+  -- However often a request is sent and answered, the boxes change at most once: of two answers to a train, whatever comes between but
+  -- another request of it, one changes no box.
   pub once
-      : (i : ℕ) (one two : List Step) → allSteps (retries i) one ≡ true → allSteps (retries i) two ≡ true
-      → let l = lineAfter step (reached t steps) one in
-      (l .boxes ≡ reached t steps .boxes) ⊎ (lineAfter step l two .boxes ≡ l .boxes)
+      : (i : ℕ) (between : List Step) → let now = step (reached t steps) (answerStep i) .line in
+      someEvent (requests i) (events step now between) ≡ false
+      → let later = lineAfter step now between in
+      (now .boxes ≡ reached t steps .boxes) ⊎ (step later (answerStep i) .line .boxes ≡ later .boxes)
   -- A step changes no other train, and at most one box.
   pub otherTrains
       : (s : Step) (j : ℕ) → j ≢ s .train → trainAt (step (reached t steps) s .line) j ≡ trainAt (reached t steps) j

@@ -1,5 +1,5 @@
--- What holds of a line between any two steps and carries demand 3. It speaks of the line as it stands, not of the steps that led
--- to it, and of the routes in force.
+-- What holds of a line between any two steps and carries demand 3. It speaks of the line as it stands and of the routes in force; of the
+-- steps that led to it only of which requests they have granted.
 use Prim.Native.Nat.{ℕ, _+_, _<_}
 use mathlib.Core.Path.{_≡_}
 use mathlib.Core.Bool.{Bool, true, false, cond, not, _||_}
@@ -22,7 +22,7 @@ use Rattle.rules.specs.Steps.{recorded, stands, withMessage, withHolding
 use Rattle.rules.specs.Record.{recordFault}
 use Rattle.rules.specs.Safety.{TrainOf, Covers, Crosses, placeIn, placeOf}
 
--- Whether the request of each train's open message has been granted. That is no function of the line, since a yes may be lost.
+-- Whether the request of each train's open message has been granted. The message does not tell it, since a yes may be lost.
 abbrev pub Granted : Type 0
 Granted = ℕ → Bool
 
@@ -57,17 +57,17 @@ quiet counts l =
 
 -- On the settled line what was asked for and granted counts as recorded, whether or not the yes is heard.
 abbrev pub settling : Granted → Counts
-settling granted i gives = cond gives false (granted i)
+settling done i gives = cond gives false (done i)
 
 abbrev pub settled : Granted → Line → Line
-settled granted = quiet (settling granted)
+settled done = quiet (settling done)
 
 -- On the atomic line so does what a train gives back, until that is granted.
 abbrev pub believing : Granted → Counts
-believing granted i gives = cond gives (not (granted i)) (granted i)
+believing done i gives = cond gives (not (done i)) (done i)
 
 abbrev pub believed : Granted → Line → Line
-believed granted = quiet (believing granted)
+believed done = quiet (believing done)
 
 -- Holding z is train i's at its box.
 unfoldable pub heldFor : Line → ℕ → Holding → Bool
@@ -150,7 +150,7 @@ pub data Open (q : Request) : Message → Type 0 where
 
 -- What every step keeps, by which requests have been granted. Where these are the ones with a yes on its way, it has the safety conditions of
 -- 02, ticket 11 (code 40), whose form has `withNext`. A reservation need not be explained by any train.
-pub record Invariant (granted : Granted) (l : Line) : Type 0 where
+pub record Invariant (done : Granted) (l : Line) : Type 0 where
   -- The record has its 96 boxes and 16 trains, which in a program its type says.
   pub boxes : length (l .boxes) ≡ 96
   pub trains : length (l .trains) ≡ 16
@@ -162,10 +162,10 @@ pub record Invariant (granted : Granted) (l : Line) : Type 0 where
       → recorded (around l i) (trainAt l i) (holding q) ≡ false
   -- An answer on its way is a yes exactly where the request has been granted.
   pub answers
-      : (i : ℕ) → TrainOf (l .table) i → (q : Request) (c : ℕ) → trainAt l i .message ≡ Answered q c → granted i ≡ eqb c 0
+      : (i : ℕ) → TrainOf (l .table) i → (q : Request) (c : ℕ) → trainAt l i .message ≡ Answered q c → done i ≡ eqb c 0
   -- What a train has given back, where that is granted, is not the train's.
   pub returned
-      : (i : ℕ) → TrainOf (l .table) i → (q : Request) → Open q (trainAt l i .message) → givesBack q ≡ true → granted i ≡ true
+      : (i : ℕ) → TrainOf (l .table) i → (q : Request) → Open q (trainAt l i .message) → givesBack q ≡ true → done i ≡ true
       → heldFor l i (holding q) ≡ false
   -- With what was granted taken as heard, trains and boxes fit together.
-  pub fitting : Fitting (settled granted l)
+  pub fitting : Fitting (settled done l)

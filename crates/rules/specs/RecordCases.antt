@@ -283,9 +283,10 @@ madeUpCases =
     ∷ checkedBox (asking (Sent (GiveBack 2)) 2 2 0) (stepOf 3 1 0) 2 gives (0 ∷ 0 ∷ 1 ∷ 2 ∷ 2 ∷ 0 ∷ 0 ∷ [])
     ∷ checkedBox (asking (Sent (Unlock 2)) 1 1 1) (stepOf 3 1 0) 2 gives (0 ∷ 0 ∷ 1 ∷ 0 ∷ 1 ∷ 1 ∷ 0 ∷ [])
     ∷ checkedBox (asking (Sent (Unlock 2)) 2 1 1) (stepOf 3 1 0) 2 gives (0 ∷ 0 ∷ 1 ∷ 2 ∷ 1 ∷ 1 ∷ 0 ∷ [])
+    ∷ checkedBox (asking (Sent (Unlock 2)) 0 1 1) (stepOf 3 1 0) 2 gives (0 ∷ 0 ∷ 1 ∷ 0 ∷ 1 ∷ 1 ∷ 0 ∷ [])
     ∷ checkedTrain (asking (Sent (Unlock 2)) 2 1 1) (stepOf 3 1 0) 1 gives (0 ∷ 0 ∷ 3 ∷ 1 ∷ 1 ∷ 0 ∷ 0 ∷ 0 ∷ 2 ∷ 8 ∷ 2 ∷ 0 ∷ [])
     ∷ checkedTrain (withTrain 0 3 1 1 (Answered (GiveBack 2) 0)) (stepOf 4 1 0) 1 gives (0 ∷ 0 ∷ 3 ∷ 1 ∷ 1 ∷ replicate 7 0)
-    -- A request on its way and an answer are lost, with its code; a lost request is sent again. Nothing else changes, nor when 30 refuses.
+    -- A request on its way is lost, and an answer with its code; a lost request is sent again. Nothing else changes, nor when 30 refuses.
     ∷ checkedTrain (asking (Sent (Lock 2)) 0 1 1) (stepOf 9 1 0) 1 gives (0 ∷ 0 ∷ 3 ∷ 1 ∷ 1 ∷ 0 ∷ 0 ∷ 0 ∷ 3 ∷ 2 ∷ 2 ∷ 0 ∷ [])
     ∷ checkedTrain (asking (Answered (Reserve 2) 22) 0 1 2) (stepOf 9 1 0) 1 gives (0 ∷ 0 ∷ 3 ∷ 1 ∷ 1 ∷ 0 ∷ 0 ∷ 0 ∷ 3 ∷ 1 ∷ 2 ∷ 0 ∷ [])
     ∷ checkedTrain (asking (Answered (GiveBack 2) 0) 0 1 0) (stepOf 9 1 0) 1 gives (0 ∷ 0 ∷ 3 ∷ 1 ∷ 1 ∷ 0 ∷ 0 ∷ 0 ∷ 3 ∷ 7 ∷ 2 ∷ 0 ∷ [])

@@ -238,7 +238,7 @@ module _ {a b kinds routes : List ℕ} {t : Table} {l₀ : Line} {bytes before :
     turned-alone three five six d e =
         decides 0 d (rw (ne-eqb _ 3 three, ne-eqb _ 5 five, ne-eqb _ 6 six)) (rw (ne-eqb _ 3 three, ne-eqb _ 5 five, ne-eqb _ 6 six) e)
 
-    -- The ends of a turn: a refused step, a step of kinds 1 to 4, which leaves what stands around the train, and a move.
+    -- The ends of a turn: a refused step, a step that is no move, which leaves what stands around the train, and a move.
     pub turn-refused : {e c : ℕ} {d : Effect} → Turned here taken i e d → d ≡ Refused c
         → Next boxes trains seen c
     unfolding apply

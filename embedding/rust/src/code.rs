@@ -31,11 +31,11 @@ pub const ROUTE_NOT_FOLLOWING: u8 = 28;
 /// Two trains start on one segment.
 pub const START_SHARED: u8 = 12;
 
-/// A step of no kind, with a box byte that is not 0 in kinds 3 to 6, or a last step cut short.
+/// A step of no kind, with a box byte that is not 0 in kinds 3 to 6, 9 or 10, or a last step cut short.
 pub const NO_SUCH_STEP: u8 = 13;
 /// The train byte is 0 or above the number of trains.
 pub const NO_SUCH_TRAIN: u8 = 14;
-/// The train's last request or give-back is not yet answered and heard.
+/// The train's last request or give-back is not yet answered and heard, or is lost.
 pub const REQUEST_OPEN: u8 = 15;
 /// The route has no next segment.
 pub const ROUTE_ENDED: u8 = 16;
@@ -51,6 +51,8 @@ pub const HOLDING_MISSING: u8 = 19;
 pub const MOVE_OUT_OF_TURN: u8 = 20;
 /// There is nothing to answer, or nothing to hear.
 pub const NO_MESSAGE: u8 = 21;
+/// There is nothing to lose, or nothing to send again.
+pub const NOTHING_TO_REPEAT: u8 = 30;
 
 /// A box's no: the segment is reserved for another train.
 pub const SEGMENT_RESERVED: u8 = 22;

@@ -1,7 +1,7 @@
 -- Each kind as the definition has it.
 use Prim.Native.Nat.{ℕ, _≤_, _<_}
 use mathlib.Core.Path.{_≡_, refl}
-use mathlib.Core.Logic.{_≢_}
+use mathlib.Core.Logic.{_≢_, _⊎_, inl, inr, ⊎-elim}
 use mathlib.Core.Bool.{Bool, true, false, cond}
 use native.Mathlib.Omega.{arith}
 use lib.Dec.{eqb}
@@ -35,13 +35,16 @@ sent-back kind at v r x q d low high e f =
     by true g h = rw (← h) f
     by false g h = rw (eq-eqb kind 8 (omega (arith, eqb-false kind 7 g)), ← h) f
 
--- There is no other kind.
-no-other : (kind at : ℕ) (v : Around) (r : Train) (x : SwitchBox)
-    → kind ≢ 1 → kind ≢ 2 → kind ≢ 4 → kind ≢ 7 → kind ≢ 8 → kind ≢ 9 → kind ≢ 10
-    → Refused 13 ≡ alone kind at v r x
+-- All other kinds: d is what kinds 9 and 10 do, or 13.
+others : (kind at : ℕ) (v : Around) (r : Train) (x : SwitchBox) (d : Effect)
+    → kind ≢ 1 → kind ≢ 2 → kind ≢ 4 → (kind < 7) ⊎ (9 ≤ kind)
+    → d ≡ cond (eqb kind 9) (lose r x (r .message)) (cond (eqb kind 10) (sendAgain r x (r .message)) (Refused 13))
+    → d ≡ alone kind at v r x
 unfolding alone
-no-other kind at v r x one two four seven eight nine ten =
-    rw (ne-eqb kind 1 one, ne-eqb kind 2 two, ne-eqb kind 4 four, ne-eqb kind 7 seven, ne-eqb kind 8 eight, ne-eqb kind 9 nine, ne-eqb kind 10 ten)
+others kind at v r x d one two four outside e =
+    let seven : kind ≢ 7 = λ z. ⊎-elim (λ low. omega (arith, z, low)) (λ high. omega (arith, z, high)) outside in
+    let eight : kind ≢ 8 = λ z. ⊎-elim (λ low. omega (arith, z, low)) (λ high. omega (arith, z, high)) outside in
+    rw (ne-eqb kind 1 one, ne-eqb kind 2 two, ne-eqb kind 4 four, ne-eqb kind 7 seven, ne-eqb kind 8 eight) e
 
 ask-requires : tie.Need-ask-requires
 unfolding givesBack
@@ -64,25 +67,14 @@ unfolding alone
 returns-3 c = rw (c .before .match .keys3) (c .hear .ensures)
 
 returns-4 : tie.Need-returns-4
-unfolding alone
-returns-4 c = rw (c .before .match .keys4) (c .lose .ensures)
+returns-4 c = sent-back _ _ _ _ _ _ _ (omega arith) (omega arith) (c .before .returned .ensures) (c .send .ensures)
 
 returns-5 : tie.Need-returns-5
-unfolding alone
-returns-5 c = rw (c .before .match .keys5) (c .send-again .ensures)
-
-returns-6 : tie.Need-returns-6
-returns-6 c = sent-back _ _ _ _ _ _ _ (omega arith) (omega arith) (c .before .returned .ensures) (c .send .ensures)
-
-returns-7 : tie.Need-returns-7
-returns-7 c =
-    let others = c .before .match .rest in
-    no-other _ _ _ _ _ (others .0 .0 .0 .0 .1) (others .0 .0 .0 .1) (others .0 .0 .1) (λ z. omega (arith, z)) (λ z. omega (arith, z)) (others .0 .1) (others .1)
-
-returns-8 : tie.Need-returns-8
-returns-8 c =
-    let others = c .before .before .match .rest in
-    no-other _ _ _ _ _ (others .0 .0 .0 .0 .1) (others .0 .0 .0 .1) (others .0 .0 .1) (λ z. omega (arith, z)) (λ z. omega (arith, z)) (others .0 .1) (others .1)
+returns-5 c =
+    let rest = c .before .before .match .rest in
+    others _ _ _ _ _ _ (rest .0 .0 .1) (rest .0 .1) (rest .1)
+    (⊎-elim (λ below. inl (below .taken)) (λ (_, above). inr (above .left)) (c .before .if1 .came))
+    (c .decide .ensures)
 
 pub alone-spec : {M : Type 1} → statement M
 alone-spec =
@@ -94,12 +86,8 @@ alone-spec =
     (λ c κs. search needs)
     (λ c κs. search needs)
     (λ c κs. search needs)
-    (λ c κs. search needs)
     returns
     returns-2
     returns-3
     returns-4
-    returns-5
-    returns-6
-    returns-7
-    returns-8)
+    returns-5)

@@ -1,5 +1,5 @@
 -- Each arm by its variant.
-use mathlib.Core.Path.{sym, ap}
+use mathlib.Core.Path.{sym, ap, _∙_}
 use borrow.Author.Needs.{needs}
 use Rattle.rules.specs.Steps.{lose}
 use Rattle.deciding.proofs.radio.lose.Statement.{statement}
@@ -11,11 +11,11 @@ returns c = ap (lose _ _) (sym (c .enum-told .given .1))
 
 returns-2 : tie.Need-returns-2
 unfolding lose
-returns-2 c = rw (c .with-message .ensures) (ap (lose _ _) (sym (c .before .before .message .given .1)))
+returns-2 c = c .lost .ensures ∙ ap (lose _ _) (sym (c .before .before .message .given .1))
 
 returns-3 : tie.Need-returns-3
 unfolding lose
-returns-3 c = rw (c .with-message2 .ensures) (ap (lose _ _) (sym (c .before .before .message2 .given .1)))
+returns-3 c = c .lost2 .ensures ∙ ap (lose _ _) (sym (c .before .before .message2 .given .1))
 
 returns-4 : tie.Need-returns-4
 unfolding lose

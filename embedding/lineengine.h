@@ -83,7 +83,7 @@ enum lineengine_code {
     /* A box says no to a train; only in `answers`, when the box answers and when the train hears. */
     LINEENGINE_SEGMENT_RESERVED = 22,      /* the segment is reserved for another train */
     LINEENGINE_POINT_LOCKED = 24,          /* the point is locked for another train, which may be on it */
-    LINEENGINE_POINT_OCCUPIED = 23,        /* a train is on the point, and no other train has its lock; no function here answers this */
+    LINEENGINE_POINT_OCCUPIED = 23,        /* a train is on the point, and no train has its lock; no function here answers this */
     LINEENGINE_POINT_NOT_RESERVED = 25,    /* a segment that the point is to join is not reserved for this train */
 
     LINEENGINE_BUFFER_TOO_SHORT = 26,      /* a buffer has less room than the call needs */

@@ -2,15 +2,16 @@
 use Prim.Native.Nat.{ℕ, _≤_}
 use mathlib.Core.Path.{_≡_, refl, sym}
 use mathlib.Core.Logic.{_≢_, _⊎_, inl, inr, ⊎-elim}
-use mathlib.Core.Bool.{Bool, true, false}
-use native.Mathlib.Decide.{decLt}
+use mathlib.Core.Bool.{Bool, true, false, cond, not}
+use borrow.Author.Tests.{eqb-true, eqb-false}
+use lib.Dec.{eqb}
 use native.Mathlib.Omega.{arith}
 use Rattle.rules.specs.Rows.{first}
 use Rattle.rules.specs.Steps.{formed, formRows}
 use Rattle.rules.proofs.Steps.{formed-iff, form-row-iff}
 
 module _ (kind at : ℕ) where
-  pub passes : formed kind at ≡ true → 0 ≡ first (formRows kind at)
+  passes : formed kind at ≡ true → 0 ≡ first (formRows kind at)
   passes h = sym (form-row-iff kind at .1 h)
 
   failed : formed kind at ≢ true → 13 ≡ first (formRows kind at)
@@ -21,34 +22,27 @@ module _ (kind at : ℕ) where
       go true e = absurd (n e)
       go false e = rw e
 
-  -- Every kind without a box byte; kinds 1, 2, 7 and 8 with any; and kinds 3 to 6, 9 and 10 with one.
-  pub passes-without : 1 ≤ kind → kind ≤ 10 → at ≡ 0 → 0 ≡ first (formRows kind at)
-  passes-without low high none =
-      passes
-      (formed-iff kind at .1
-      (elim (decLt kind 3) [
-        | yes asks ↦ inl (inl (inl (low, omega arith)))
-        | no some ↦ elim (decLt kind 7) [
-          | yes plain ↦ inl (inl (inr ((omega arith, omega arith), none)))
-          | no more ↦ elim (decLt kind 9) [
-            | yes returns ↦ inl (inr (omega arith, omega arith))
-            | no radio ↦ inr ((omega arith, high), none)
-          ]
-        ]
-      ]))
+  -- Kinds 3 to 6, 9 and 10 pass without a box byte; kinds 1, 2, 7 and 8 with any.
+  pub without-box : ((3 ≤ kind) × (kind ≤ 6)) ⊎ ((9 ≤ kind) × (kind ≤ 10)) → first (formRows kind at) ≡ cond (not (eqb at 0)) 13 0
+  without-box range = by (eqb at 0) refl
+    where
+      by : (b : Bool) → eqb at 0 ≡ b → first (formRows kind at) ≡ cond (not b) 13 0
+      by true e =
+          let byte = eqb-true at 0 e in
+          sym (passes (formed-iff kind at .1 (⊎-elim (λ these. inl (inl (inr (these, byte)))) (λ these. inr (these, byte)) range)))
+      by false e =
+          let some = eqb-false at 0 e in
+          sym
+          (failed λ f.
+          ⊎-elim
+          (⊎-elim
+          (⊎-elim (λ (first, last). ⊎-elim (λ these. omega (arith, these)) (λ these. omega (arith, these)) range) (λ (these, byte). some byte))
+          (λ (first, last). ⊎-elim (λ these. omega (arith, these)) (λ these. omega (arith, these)) range))
+          (λ (these, byte). some byte)
+          (formed-iff kind at .0 f))
 
-  pub passes-with : ((1 ≤ kind) × (kind ≤ 2)) ⊎ ((7 ≤ kind) × (kind ≤ 8)) → 0 ≡ first (formRows kind at)
-  passes-with range = passes (formed-iff kind at .1 (⊎-elim (λ these. inl (inl (inl these))) (λ these. inl (inr these)) range))
-
-  pub fails-at-box : ((3 ≤ kind) × (kind ≤ 6)) ⊎ ((9 ≤ kind) × (kind ≤ 10)) → at ≢ 0 → 13 ≡ first (formRows kind at)
-  fails-at-box range some =
-      failed λ e.
-      ⊎-elim
-      (⊎-elim
-      (⊎-elim (λ (first, last). ⊎-elim (λ these. omega (arith, these)) (λ these. omega (arith, these)) range) (λ (these, byte). some byte))
-      (λ (first, last). ⊎-elim (λ these. omega (arith, these)) (λ these. omega (arith, these)) range))
-      (λ (these, byte). some byte)
-      (formed-iff kind at .0 e)
+  pub with-box : ((1 ≤ kind) × (kind ≤ 2)) ⊎ ((7 ≤ kind) × (kind ≤ 8)) → first (formRows kind at) ≡ 0
+  with-box range = sym (passes (formed-iff kind at .1 (⊎-elim (λ these. inl (inl (inl these))) (λ these. inl (inr these)) range)))
 
   pub fails-outside : ¬ ((1 ≤ kind) × (kind ≤ 10)) → 13 ≡ first (formRows kind at)
   fails-outside outside =

@@ -58,7 +58,7 @@ pub const NOTHING_TO_REPEAT: u8 = 30;
 pub const SEGMENT_RESERVED: u8 = 22;
 /// A box's no: the point is locked for another train, which may be on it.
 pub const POINT_LOCKED: u8 = 24;
-/// A box's no: a train is on the point, and no other train has its lock. No function here answers this.
+/// A box's no: a train is on the point, and no train has its lock. No function here answers this.
 pub const POINT_OCCUPIED: u8 = 23;
 /// A box's no: a segment that the point is to join is not reserved for this train.
 pub const POINT_NOT_RESERVED: u8 = 25;

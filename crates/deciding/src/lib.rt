@@ -12,39 +12,36 @@ use rules::Request;
 use rules::SwitchBox;
 use rules::Train;
 ghost use mathlib.Core.Path.{_≡_};
-ghost use mathlib.Core.Bool.{cond, not, _&&_};
+ghost use mathlib.Core.Bool.{cond, not};
 ghost use lib.Dec.{eqb};
-ghost use Prim.Native.Nat.{ℕ, _≤_};
+ghost use Prim.Native.Nat.{_≤_};
 ghost use Rattle.rules.specs.declared.Request.the-variants.{GiveBack, Unlock};
 ghost use Rattle.rules.specs.Rows.{first};
 ghost use Rattle.rules.specs.Track.{noBoxPlan};
 ghost use Rattle.rules.specs.Line.{noBox};
 ghost use Rattle.rules.specs.Steps.{formRows, concernedBox, alone, effect};
 
-// A kind of 1 to 10 has no box byte.
-fn boxless(kind: u8) -> bool
-    requires { ⌜ 1 ≤ kind ⌝ }
-    requires { ⌜ kind ≤ 10 ⌝ }
-    ensures { λ x. ⌜ ((at : ℕ) → first (formRows kind at) ≡ cond (x && not (eqb at 0)) 13 0) ⌝ }
+// Code 13 of a kind that has no box byte.
+fn no_byte_code(at: u8) -> u8
+    ensures { λ c. ⌜ c ≡ cond (not (eqb at 0)) 13 0 ⌝ }
 {
-    match kind {
-        3..=6 => true,
-        9..=10 => true,
-        _ => false,
+    if at != 0 {
+        return 13;
     }
+    0
 }
 
-// Code 13 of kinds 1 to 10. Both tests are made, so that there is one branch to foresee.
+// Code 13 of kinds 1 to 10: kinds 3 to 6, 9 and 10 have no box byte.
 fn byte_code(kind: u8, at: u8) -> u8
     requires { ⌜ 1 ≤ kind ⌝ }
     requires { ⌜ kind ≤ 10 ⌝ }
     ensures { λ c. ⌜ c ≡ first (formRows kind at) ⌝ }
 {
-    let wrong = boxless(kind) & (at != 0);
-    if wrong {
-        return 13;
+    match kind {
+        3..=6 => no_byte_code(at),
+        9..=10 => no_byte_code(at),
+        _ => 0,
     }
-    0
 }
 
 // Code 13: kinds 1, 2, 7 and 8 have a box byte, kinds 3 to 6, 9 and 10 have none, and there is no other kind.

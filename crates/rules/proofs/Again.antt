@@ -112,14 +112,9 @@ module _ {g : Granted} {l : Line} (h : Invariant g l) {i : ℕ} (k : TrainOf (l 
   pub again-line : afterGrant l i q ≡ afterMessage l i (Answered q 0)
   again-line = rw again-same (train-alone l i _ (requestBox q))
 
--- So what is denied has not been granted; nor is a give-back ever denied.
-module _ {g : Granted} {l : Line} (h : Invariant g l) {s : Step} {q : Request} {c : ℕ} (w : Answers l s q c) (n : c ≢ 0) where
-  pub denied-new : g (s .train) ≡ false
-  denied-new = not-passed (g (s .train)) λ done. n (sym (w .code) ∙ again-yes h (w .train) (rw (w .sent) sent) done)
-
-  pub denied-asks : givesBack q ≡ false
-  unfolding boxRows
-  denied-asks = not-passed (givesBack q) λ e. n (sym (w .code) ∙ rw e first-none)
+-- So what is denied has not been granted.
+pub denied-new : {g : Granted} {l : Line} → Invariant g l → {s : Step} {q : Request} {c : ℕ} → Answers l s q c → c ≢ 0 → g (s .train) ≡ false
+denied-new {g} h {s} w n = not-passed (g (s .train)) λ done. n (sym (w .code) ∙ again-yes h (w .train) (rw (w .sent) sent) done)
 
 -- A give-back is heard with 0.
 zero-answer : (q : Request) (c : ℕ) → givesBack q ≡ true → answerCode q c ≡ true → c ≡ 0

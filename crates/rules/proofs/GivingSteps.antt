@@ -1,6 +1,6 @@
 -- What the steps of a give-back are on the settled line, and on the atomic one.
 use Prim.Native.Nat.{ℕ, _+_, _<_}
-use mathlib.Core.Path.{_≡_, refl, sym, _∙_, ap}
+use mathlib.Core.Path.{_≡_, refl, sym, _∙_}
 use mathlib.Core.Logic.{_≢_}
 use mathlib.Core.Bool.{Bool, true, false, cond, not}
 use native.Mathlib.Omega.{arith}
@@ -13,8 +13,8 @@ use Rattle.rules.specs.declared.Line.{Line}
 use Rattle.rules.specs.declared.Around.{Around}
 use Rattle.rules.specs.Rows.{first}
 use Rattle.rules.specs.Track.{planAt}
-use Rattle.rules.specs.Line.{aroundOn, aroundTrain, around, boxAt, trainAt, putTrain, requestBox, holding, givesBack}
-use Rattle.rules.specs.Steps.{Step, recorded, requestRows, withMessage, withHolding, withoutHolding, granted, sending, heard}
+use Rattle.rules.specs.Line.{aroundOn, around, boxAt, trainAt, putTrain, requestBox, holding, givesBack}
+use Rattle.rules.specs.Steps.{Step, recorded, requestRows, withMessage, withoutHolding, granted, sending}
 use Rattle.rules.specs.Safety.{TrainOf}
 use Rattle.rules.specs.Invariant.{Granted, counted, settling, settled, believing, believed, sent, Open, Invariant}
 use Rattle.rules.proofs.Frames.{put}

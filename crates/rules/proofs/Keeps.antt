@@ -8,7 +8,6 @@ use mathlib.Core.Option.{Option, none, some}
 use borrow.Author.Tests.{ne-eqb}
 use lib.Dec.{eqb}
 use native.Mathlib.Omega.{arith}
-use lib.ListN.{length}
 use Rattle.rules.specs.declared.Table.{Table}
 use Rattle.rules.specs.declared.SwitchBox.{SwitchBox}
 use Rattle.rules.specs.declared.Holding.{Holding}
@@ -27,7 +26,7 @@ use Rattle.rules.specs.Record.{answerCode}
 use Rattle.rules.specs.History.{_answered_, lineAfter, events}
 use Rattle.rules.specs.Safety.{TrainOf}
 use Rattle.rules.specs.Atomic.{Kept, keep, keptBy, isGranted}
-use Rattle.rules.specs.Invariant.{Granted, counted, settling, settled, heldFor, Fitting, Open, sent, answered, lost, Invariant}
+use Rattle.rules.specs.Invariant.{Granted, counted, settling, settled, heldFor, Fitting, Open, sent, answered, Invariant}
 use Rattle.rules.proofs.Accepted.{BoxOf}
 use Rattle.rules.proofs.Frames.{put, set-length, each-train, each-box, every-box, box-put, train-alone}
 use Rattle.rules.proofs.Sound.{Placed, BoxSound, MessageSound, silent, onItsWay, answering, missing, sound-iff, open-address}

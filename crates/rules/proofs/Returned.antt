@@ -1,14 +1,11 @@
 -- What a train has given back, and the box has answered, is not the train's until it asks for it again.
 use Prim.Native.Nat.{ℕ}
-use mathlib.Core.Path.{_≡_, refl, sym, _∙_, ap}
-use mathlib.Core.Logic.{_≢_, ⊎-elim}
-use mathlib.Core.Bool.{Bool, true, false, cond, false≢true}
+use mathlib.Core.Path.{_≡_, refl, sym, _∙_}
+use mathlib.Core.Bool.{true, false, false≢true}
 use mathlib.Core.List.{List, [], _∷_}
-use native.Mathlib.Decide.{ℕ-discrete}
 use native.Mathlib.Omega.{arith}
-use borrow.Author.Tests.{eq-eqb, ne-eqb}
+use borrow.Author.Tests.{ne-eqb}
 use lib.Dec.{eqb}
-use Rattle.rules.specs.declared.BoxPlan.{BoxPlan}
 use Rattle.rules.specs.declared.SwitchBox.{SwitchBox}
 use Rattle.rules.specs.declared.Holding.{Holding}
 use Rattle.rules.specs.declared.Holding.the-variants.{NextAt, LockAt}
@@ -19,7 +16,6 @@ use Rattle.rules.specs.declared.Message.the-variants.{Sent, Answered}
 use Rattle.rules.specs.declared.Train.{Train}
 use Rattle.rules.specs.declared.Line.{Line}
 use Rattle.rules.specs.declared.Outcome.{Outcome}
-use Rattle.rules.specs.declared.Around.{Around}
 use Rattle.rules.specs.Track.{planAt}
 use Rattle.rules.specs.Line.{requestKind, requestBox, aroundOn, aroundTrain, around, boxAt, trainAt, putTrain, putBox, holding, givesBack, holdingBox}
 use Rattle.rules.specs.Steps.{Step, addressed, stands, sending, withMessage, cleared, step}

@@ -4,7 +4,6 @@ use mathlib.Core.Path.{_≡_, refl, sym, _∙_, ap}
 use mathlib.Core.Logic.{_≢_}
 use mathlib.Core.Bool.{Bool, true, false, cond, not, _&&_, _||_, false≢true, and-true as and-all}
 use mathlib.Core.List.{List}
-use borrow.Author.Tests.{ne-eqb}
 use lib.Dec.{eqb}
 use Rattle.rules.specs.declared.Table.{Table}
 use Rattle.rules.specs.declared.Holding.{Holding}
@@ -24,7 +23,7 @@ use Rattle.rules.specs.Invariant.{Granted, Counts, counted, quietTrain, 
 use Rattle.rules.proofs.Tests.{or-left, and-true, and-right}
 use Rattle.rules.proofs.Sound.{open-address}
 use Rattle.rules.proofs.Frames.{put}
-use Rattle.rules.proofs.StepKinds.{afterSending, afterRequest, afterMessage, afterGrant, afterHearing, afterEnter, afterClear, Sends, Answers, Hears, Enters, Clears}
+use Rattle.rules.proofs.StepKinds.{afterSending, afterRequest, afterMessage, afterGrant, afterHearing, afterEnter, afterClear, Sends, Answers, Enters}
 use Rattle.rules.proofs.StepRows.{address-iff, request-iff, lock-address-iff, enter-iff}
 use Rattle.rules.proofs.Settled.{line-sound, Alike, message-alike, heard-counted, heard-message, idle-quiet, open-quiet, clears-quiet, table-quiet, train-quiet, alike-quiet, around-quiet, box-quiet, put-quiet, same-quiet}
 

@@ -44,9 +44,6 @@ not-open {q} {g} e w = false≢true (sym (closed-iff g .1 e) ∙ open-message w)
     open-message lost = refl
 
 -- Messages of different kinds differ, and an answer has one code.
-pub not-idle : {q : Request} → Idle ≡ Sent q → ⊥
-not-idle e = let z : _≡_ {A = ℕ} 0 1 = cc in omega arith
-
 pub not-answered : {q z : Request} {c : ℕ} → Answered q c ≡ Sent z → ⊥
 not-answered e = let z : _≡_ {A = ℕ} 0 1 = cc in omega arith
 

@@ -32,6 +32,7 @@ isRequest s = eqb (s .kind) 1 || eqb (s .kind) 2 || eqb (s .kind) 7 || eqb (s .k
 unfoldable pub requests : ℕ → Event → Bool
 requests i e = isRequest (e .step) && eqb (e .step .train) i && eqb (e .answer) 0
 
+-- What is kept after an event, and after a list of them.
 unfoldable pub keep : Kept → Event → Kept
 keep kept e i = cond (requests i e) (some (e .step)) (cond (accepted 3 i e) none (kept i))
 

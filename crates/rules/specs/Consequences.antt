@@ -11,7 +11,6 @@ use Rattle.rules.specs.declared.Holding.the-variants.{NextAt, LockAt}
 use Rattle.rules.specs.declared.Request.{Request}
 use Rattle.rules.specs.declared.Request.the-variants.{Lock}
 use Rattle.rules.specs.declared.Message.the-variants.{Idle, Sent, Answered}
-use Rattle.rules.specs.declared.Line.{Line}
 use Rattle.rules.specs.File.{fileCode, decode}
 use Rattle.rules.specs.Line.{startLine, boxAt, trainAt, holding, givesBack}
 use Rattle.rules.specs.Steps.{Step, step}

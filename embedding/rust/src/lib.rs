@@ -31,7 +31,7 @@ mod refusal;
 pub use refusal::{Buffer, Refusal, RoutePlace};
 
 /// The version of the interface, as in embedding/lineengine.h, which says when it changes.
-pub const VERSION: (u32, u32) = (3, 0);
+pub const VERSION: (u32, u32) = (3, 1);
 
 /// The bytes of stack that are enough for any call.
 pub const STACK: usize = 65_536;

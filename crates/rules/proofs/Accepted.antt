@@ -1,4 +1,4 @@
--- What holds of an accepted table: the conditions of codes 3, 4, 6 to 12 and 28 as facts with names.
+-- What holds of an accepted table: the conditions of codes 3, 4, 6 to 12, 28 and 32 as facts with names.
 -- An end of a segment is named by a direction: the near end for a train of that direction.
 use Prim.Native.Nat.{ℕ, zero, suc, _+_, _-_, _≤_, _<_}
 use mathlib.Core.Path.{_≡_, refl, sym}
@@ -11,10 +11,10 @@ use Rattle.rules.specs.declared.Table.{Table}
 use Rattle.rules.specs.declared.BoxPlan.{BoxPlan}
 use Rattle.rules.specs.declared.Refusal.{Refusal}
 use Rattle.rules.specs.Rows.{anyOf, nth, outside}
-use Rattle.rules.specs.Track.{noBoxPlan, planAt, trainPlanAt, routeAt, Track, trackOf, nearBox, farBox, follows, isPoint, positionFits}
+use Rattle.rules.specs.Track.{noBoxPlan, planAt, trainPlanAt, routeAt, Track, trackOf, wayBy, wayOf, runsAgainst, nearBox, farBox, follows, isPoint, positionFits}
 use Rattle.rules.specs.Loop.{SegmentOf, Loop}
-use Rattle.rules.specs.Network.{knownVersion, limitsFault, endsFault, placeFault, branchesFault, planFault, lists, hasEndA, hasEndB, listedFault, sideFault, boxFault, planFaultAt, boxFaultAt, unlistedFault, headRows, networkRows}
-use Rattle.rules.specs.Placing.{firstOf, routeShapeFault, placeRows, routePlaceFault, routeFault, startFault, shapeFaultAt, routeFaultAt, routesFault, placingRows, partsCode, tableCode}
+use Rattle.rules.specs.Network.{knownVersion, hasWays, waysFault, limitsFault, endsFault, segmentFault, placeFault, branchesFault, planFault, lists, hasEndA, hasEndB, listedFault, sideFault, boxFault, planFaultAt, boxFaultAt, unlistedFault, headRows, networkRows}
+use Rattle.rules.specs.Placing.{firstOf, routeShapeFault, placeRows, routePlaceFault, routeFault, startFault, againstFaultAt, shapeFaultAt, routeFaultAt, routesFault, placingRows, partsCode, tableCode}
 use Rattle.rules.specs.Safety.{TrainOf, onRoute}
 use Rattle.rules.proofs.Tests.{facts, or-true-iff, eqb-true-iff, leb-true-iff, outside-false-iff, first-none, first-zero-iff, first-code-iff}
 use Rattle.rules.proofs.Rows.{any-false-iff, once}
@@ -86,10 +86,13 @@ pub record Routed (n : ℕ) (track : Track) (routes : List ℕ) (i d r : ℕ) : 
 pub record Accepted (t : Table) : Type 0 where
   -- Its version is one that is read.
   pub version : knownVersion (t .version) ≡ true
+  -- Its version can hold the ways of its segments.
+  pub held : hasWays (t .version) ≡ false → (s : ℕ) → SegmentOf (t .n) s → wayOf t s ≡ 0
   -- Its numbers of segments, boxes and trains are within the limits.
   pub limits : Limits (t .n) (t .m) (t .k)
-  -- Each segment runs between two boxes.
+  -- Each segment runs between two boxes, both ways or one way.
   pub ends : (s : ℕ) → SegmentOf (t .n) s → Ends (t .m) (trackOf t) s
+  pub ways : (s : ℕ) → SegmentOf (t .n) s → wayOf t s ≤ 2
   -- Each box has the segments that its kind asks for.
   pub plans : (b : ℕ) → BoxOf (t .m) b → Planned (t .n) (planAt t b)
   -- Each box lists segments with an end there, the branches opposite to the stem.
@@ -104,6 +107,8 @@ pub record Accepted (t : Table) : Type 0 where
       → Routed (t .n) (trackOf t) (t .routes) i (trainPlanAt t i .direction) (trainPlanAt t i .length)
   -- No two trains start on one segment.
   pub starts : (i j : ℕ) → TrainOf t i → TrainOf t j → onRoute t i 1 ≡ onRoute t j 1 → i ≡ j
+  -- No train starts against the way of its segment.
+  pub along : (i : ℕ) → TrainOf t i → runsAgainst (trainPlanAt t i .direction) (wayOf t (onRoute t i 1)) ≡ false
 
 -- The tests of a number of a segment or box; and those over all segments, boxes and trains of a table, by which `simp` tells the
 -- three numbers apart.
@@ -171,6 +176,16 @@ ends-iff m track s =
     differ : track .endA s ≢ track .endB s → (d : ℕ) → nearBox track d s ≢ farBox track d s
     differ h zero = h
     differ h (suc d) = rw eqb·suc-zero (Ne·symm h)
+
+segment-fault-iff : (m : ℕ) (track : Track) (way : ℕ → ℕ) (s : ℕ) → (segmentFault m track way s ≡ false) ↔ (Ends m track s × (way s ≤ 2))
+unfolding segmentFault
+segment-fault-iff m track way s = simp (facts, ends-iff) (λ (ends, low). (ends, omega arith), λ (ends, low). (ends, omega arith))
+
+-- Code 3 of a record: what its version cannot hold.
+held-iff : (t : Table) → (waysFault (t .version) (t .n) (wayOf t) ≡ false)
+    ↔ (hasWays (t .version) ≡ false → (s : ℕ) → SegmentOf (t .n) s → wayOf t s ≡ 0)
+unfolding waysFault
+held-iff t = simp (facts, any-segment-iff) Iff·rfl
 
 -- Code 7: a place of a box.
 use-iff : (n : ℕ) (case : Type 0) (needed : Bool) (s : ℕ) → ((needed ≡ true) ↔ case)
@@ -315,24 +330,27 @@ faultless t a i h = routed-iff (t .n) (trackOf t) (t .routes) i _ _ .1 (a .route
 
 -- A table is accepted exactly where its code is 0.
 pub accepted-iff : (t : Table) → (tableCode t ≡ 0) ↔ Accepted t
-unfolding tableCode partsCode headRows networkRows placingRows routesFault planFaultAt boxFaultAt shapeFaultAt routeFaultAt planAt trainPlanAt
+unfolding tableCode partsCode headRows networkRows placingRows routesFault planFaultAt boxFaultAt againstFaultAt shapeFaultAt routeFaultAt planAt trainPlanAt
 accepted-iff t =
     simp
-    (facts, first-zero-iff, first-code-iff, first-none, any-segment-iff, any-box-iff, any-train-iff, first-train-iff, limits-iff, ends-iff, plan-iff, sides-iff, listing-iff, no-loop-iff) (
-      λ (version, (limits, (ends, (plans, ((sides, listed), (noLoop, (shapes, (routes, (starts, none))))))))).
+    (facts, first-zero-iff, first-code-iff, first-none, held-iff, any-segment-iff, any-box-iff, any-train-iff, first-train-iff, limits-iff, segment-fault-iff, plan-iff, sides-iff, listing-iff, no-loop-iff) (
+      λ (held, (version, (limits, (ends, (plans, ((sides, listed), (noLoop, (shapes, (routes, (starts, (along, none))))))))))).
           record {
             version = version;
+            held = held;
             limits = limits;
-            ends = ends;
+            ends = λ s h. ends s h .0;
+            ways = λ s h. ends s h .1;
             plans = plans;
             sides = sides;
             listed = λ d s h. listed s h d;
             noLoop = noLoop;
             routes = λ i h. routed-iff (t .n) (trackOf t) (t .routes) i _ _ .0 (shapes i h, routes i h);
             starts = starts-iff t .0 starts;
+            along = along;
           },
       λ a.
-          (a .version, (a .limits, (a .ends, (a .plans, ((a .sides, λ s h d. a .listed d s h), (a .noLoop, (λ i h. faultless t a i h .0, (λ i h. faultless t a i h .1, (starts-iff t .1 (a .starts), refl))))))))),
+          (a .held, (a .version, (a .limits, (λ s h. (a .ends s h, a .ways s h), (a .plans, ((a .sides, λ s h d. a .listed d s h), (a .noLoop, (λ i h. faultless t a i h .0, (λ i h. faultless t a i h .1, (starts-iff t .1 (a .starts), (a .along, refl))))))))))),
     )
 
 pub accepted : (t : Table) → tableCode t ≡ 0 → Accepted t

@@ -2,7 +2,7 @@
 use mathlib.Core.Path.{_≡_, refl}
 use mathlib.Core.List.{map}
 use Rattle.rules.specs.Cases.{Case, found}
-use Rattle.rules.specs.RecordCases.{cases}
+use Rattle.rules.specs.AllCases.{cases}
 use Rattle.rules.proofs.Computing.{definitions}
 
 pub cases-hold : map (λ (c : Case). found (c .ask)) cases ≡ map (λ (c : Case). c .expected) cases

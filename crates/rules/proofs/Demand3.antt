@@ -8,14 +8,14 @@ use Rattle.rules.specs.declared.Table.{Table}
 use Rattle.rules.specs.declared.SwitchBox.{SwitchBox}
 use Rattle.rules.specs.declared.Train.{Train}
 use Rattle.rules.specs.declared.Line.{Line}
-use Rattle.rules.specs.Track.{planAt, trainPlanAt, routeAt, isPoint, joins}
-use Rattle.rules.specs.Line.{startTrain, startLine, boxAt, trainAt}
+use Rattle.rules.specs.Track.{planAt, trainPlanAt, routeAt, trackOf, farBox, isPoint, joins}
+use Rattle.rules.specs.Line.{startTrain, startLine, boxAt, trainAt, holderOf}
 use Rattle.rules.specs.Steps.{Step, step}
 use Rattle.rules.specs.History.{Call, _answered_, Place, startPlace, lineAfter, events, movedBy, placeAfter}
 use Rattle.rules.specs.Atomic.{Kept, keep, keptBy, noneKept, isGranted, added, orderFrom, order, atomicStep, stopped}
-use Rattle.rules.specs.Safety.{TrainOf, Fixed, placeOf, reached, whereIs, ordered, atomic, CrossesBox, Safe, Demand3}
+use Rattle.rules.specs.Safety.{TrainOf, onRoute, Covers, Fixed, placeOf, reached, whereIs, ordered, atomic, CrossesBox, Safe, Demand3}
 use Rattle.rules.specs.Consequences.{grantedAfter}
-use Rattle.rules.specs.Invariant.{Counts, quiet, settling, believing, believed, CrossesAt, crossedPoint, Invariant}
+use Rattle.rules.specs.Invariant.{Counts, quiet, settling, believing, believed, CrossesAt, ahead, crossedPoint, Invariant}
 use Rattle.rules.proofs.Tests.{or-false-iff}
 use Rattle.rules.proofs.Accepted.{Accepted}
 use Rattle.rules.proofs.Routes.{far-once}
@@ -116,7 +116,7 @@ module _ {t : Table} (a : Accepted t) where
       ran noneKept (startLine t) (start-invariant t a (isGranted noneKept))
       (record { request = λ i k q o. absurd (not-open (start-message t a i) o) })
 
-  start-fixed : Fixed t (startLine t)
+  pub start-fixed : Fixed t (startLine t)
   unfolding startLine startTrain trainPlanAt
   start-fixed =
       record {
@@ -147,7 +147,7 @@ module _ {t : Table} (a : Accepted t) where
     pub line-fixed : Fixed t (reached t steps)
     line-fixed = from-start steps .fixed t start-fixed
 
-    line-place : (i : ℕ) → TrainOf t i → placeOf (reached t steps) i ≡ whereIs t steps i
+    pub line-place : (i : ℕ) → TrainOf t i → placeOf (reached t steps) i ≡ whereIs t steps i
     unfolding placeAfter
     line-place i k = rw (start-place i k) at (from-start steps .places i (rw (start-fixed .table) k))
 
@@ -173,6 +173,15 @@ module _ {t : Table} (a : Accepted t) where
         → boxAt (reached t steps) b .sensor ≡ true
     sensed-there {i} k {q} {b} c =
         rw (box-quiet settles) at (invariant-after .fitting .fits i (known k) b .sensed q (crosses k c))
+
+    -- Each covered segment is reserved for its train at the box ahead of it.
+    pub covered-held : {i : ℕ} → TrainOf t i → {q : ℕ} → Covers (whereIs t steps i) q
+        → let b = farBox (trackOf t) (trainPlanAt t i .direction) (onRoute t i q) in
+        holderOf (planAt t b) (boxAt (reached t steps) b) (onRoute t i q) ≡ i
+    covered-held {i} k {q} c =
+        let f = quiet-fixed settles line-fixed in
+        rw (box-quiet settles, f .directions i k, f .routes, f .table) at
+        (invariant-after .fitting .fits i (known k) _ .reserved _ (ahead {q = q} (rw (quiet-placed settles i k) c)))
 
     same-box : (b : ℕ) → boxAt (reached t steps) b ≡ boxAt (atomic t steps) b
     same-box b = rw (same-atomic, box-quiet)

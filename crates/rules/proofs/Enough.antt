@@ -2,7 +2,7 @@
 use Prim.Native.Nat.{ℕ, zero, suc, _+_, _*_, _/_, _≤_, _<_}
 use mathlib.Core.Path.{_≡_, refl, sym, _∙_}
 use mathlib.Core.Logic.{_≢_}
-use mathlib.Core.Bool.{Bool, true, false, not}
+use mathlib.Core.Bool.{Bool, true, false, cond, not}
 use mathlib.Core.List.{List, [], _∷_, _++_}
 use native.Mathlib.Decide.{decLt}
 use native.Mathlib.Omega.{arith}
@@ -12,7 +12,7 @@ use lib.ListN.{length, take, drop, length-append, length-take, List·getD-eq-def
 use lib.Seq.{take-append-seam, take-all, take-take, getD-take}
 use Rattle.rules.specs.declared.Line.{Line}
 use Rattle.rules.specs.Rows.{_if_, first}
-use Rattle.rules.specs.Network.{knownVersion, limitsFault, headRows}
+use Rattle.rules.specs.Network.{knownVersion, hasWays, limitsFault, headRows}
 use Rattle.rules.specs.Placing.{conditionRows, withoutPlace, tellsPlace}
 use Rattle.rules.specs.File.{headSize, segmentSize, boxSize, trainSize, byteAt, marked, versionIn, segmentCount, boxCount, trainCount, boxStart, trainsFrom, fileLength, decode, earlyRows, fileCode, fileRefusal}
 use Rattle.rules.specs.Line.{emptyLine, read}
@@ -43,11 +43,19 @@ module _ (bytes : List ℕ) (low : AllBytes bytes) where
   trains-end zero = omega arith
   trains-end (suc j) = omega (arith, trains-end j, low (trainsFrom bytes j + 1))
 
+  segments-end : segmentCount bytes ≤ 96 → segmentSize (versionIn bytes) * segmentCount bytes ≤ 288
+  unfolding segmentSize
+  segments-end few = by (hasWays (versionIn bytes))
+    where
+      by : (b : Bool) → cond b 3 2 * segmentCount bytes ≤ 288
+      by true = omega arith
+      by false = omega arith
+
   length-limit : limitsFault (segmentCount bytes) (boxCount bytes) (trainCount bytes) ≡ false → fileLength bytes < mostFile
-  unfolding limitsFault fileLength boxStart segmentSize boxSize
+  unfolding limitsFault fileLength boxStart boxSize
   length-limit e =
       let ((segments, boxes), trains) = simp (facts, outside-false-iff) at e in
-      omega (arith, trains-end (trainCount bytes))
+      omega (arith, trains-end (trainCount bytes), segments-end (segments .1))
 
   length-wrong : mostFile ≤ length bytes → limitsFault (segmentCount bytes) (boxCount bytes) (trainCount bytes) ≡ false
       → not (eqb (length bytes) (fileLength bytes)) ≡ true

@@ -2,7 +2,7 @@
 use mathlib.Core.Path.{_≡_, refl}
 use mathlib.Core.List.{[], _∷_, map}
 use Rattle.rules.specs.Rows.{first}
-use Rattle.rules.specs.Track.{trackOf}
+use Rattle.rules.specs.Track.{trackOf, wayOf}
 use Rattle.rules.specs.Placing.{placingRows}
 use Rattle.rules.specs.File.{fileCode, decode}
 use Rattle.rules.specs.Examples.{coveredBy, seen, said, examples, circle, roundTrip}
@@ -18,7 +18,7 @@ pub circle-refused : fileCode circle ≡ 9
 unfolding definitions
 circle-refused = refl
 
-pub circle-placed : first (let t = decode circle in placingRows (t .n) (t .k) (trackOf t) (t .trains) (t .routes)) ≡ 0
+pub circle-placed : first (let t = decode circle in placingRows (t .n) (t .k) (trackOf t) (wayOf t) (t .trains) (t .routes)) ≡ 0
 unfolding definitions
 circle-placed = refl
 

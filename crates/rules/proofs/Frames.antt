@@ -2,7 +2,7 @@
 use Prim.Native.Nat.{ℕ, zero, suc, _≤_}
 use mathlib.Core.Path.{_≡_, refl, sym, _∙_, ap}
 use mathlib.Core.Logic.{_≢_, inl, inr}
-use mathlib.Core.Bool.{true, cond}
+use mathlib.Core.Bool.{Bool, true, false, cond}
 use mathlib.Core.List.{List, [], _∷_}
 use native.Mathlib.Decide.{ℕ-discrete}
 use native.Mathlib.Omega.{arith}
@@ -138,7 +138,7 @@ unfolding putTrain boxAt
 train-alone l i r b = box-back (putTrain l i r) b
 
 -- What holds of the value at each place of a box where segment s stands holds of what is read for s, where the box lists it.
-place-read : (P : ℕ → Type 0) (s place y rest : ℕ) → (s ≡ place → P y) → (s ≢ place → P rest) → P (cond (eqb s place) y rest)
+pub place-read : (P : ℕ → Type 0) (s place y rest : ℕ) → (s ≡ place → P y) → (s ≢ place → P rest) → P (cond (eqb s place) y rest)
 place-read P s place y rest this others =
     cond-each P (eqb s place) y rest (λ e. this (eqb-true s place e)) (λ n. others (eqb-false s place n))
 
@@ -157,7 +157,7 @@ holder-read p x s P h stem left right =
     nowhere l m n (inr (y, onLeft f e)) = m (sym e)
     nowhere l m n (inr (y, onRight f e)) = n (sym e)
 
--- The reservation of segment s set at a box: what is read for s, where the box lists it, and for another segment.
+-- The reservation of segment s set at a box: what is read for s, where the box lists it, and where it may not; and for another segment.
 other-read : (z s place i y rest rest′ : ℕ) → z ≢ s → rest ≡ rest′
     → cond (eqb z place) (cond (eqb s place) i y) rest ≡ cond (eqb z place) y rest′
 other-read z s place i y rest rest′ n h =
@@ -172,6 +172,14 @@ module _ (p : BoxPlan) (x : SwitchBox) (s i : ℕ) where
   holder-set h =
       holder-read p (setHolder p x s i) s (λ z. z ≡ i) h (λ e. rw (eq-eqb s _ e)) (λ e. rw (eq-eqb s _ e))
       (λ e. rw (eq-eqb s _ e))
+
+  pub holder-own : (P : ℕ → Type 0) → P 0 → P i → P (holderOf p (setHolder p x s i) s)
+  unfolding holderOf setHolder
+  holder-own P none this = by (eqb s (p .stem)) _ _ (by (eqb s (p .left)) _ _ (by (eqb s (p .right)) _ _ none))
+    where
+      by : (c : Bool) (y rest : ℕ) → P rest → P (cond c (cond c i y) rest)
+      by true y rest h = this
+      by false y rest h = h
 
   pub holder-other : {z : ℕ} → z ≢ s → holderOf p (setHolder p x s i) z ≡ holderOf p x z
   unfolding holderOf setHolder

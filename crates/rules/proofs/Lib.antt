@@ -76,6 +76,8 @@ pub mod Demand3
 pub mod Checked
 -- No step is answered 23.
 pub mod Occupied
+-- No train covers a segment against its way.
+pub mod Along
 -- What a train has given back is not its own until it asks for it again.
 pub mod Returned
 -- A request that was granted is answered yes again, and changes the boxes at most once.

@@ -90,7 +90,7 @@ box-not-23 {l = l} h {s} {q} w code =
     among : (q : Request) → trainAt l (s .train) .message ≡ Sent q → givesBack q ≡ false
         → first (grantRows (around l (s .train)) (planAt (l .table) (requestBox q)) (boxAt l (requestBox q)) (holding q)) ≢ 23
     among (Reserve b) asked n =
-        each-code (λ c. c ≢ 23) (grantRows (around l (s .train)) (planAt (l .table) b) (boxAt l b) (NextAt b)) (omega arith, omega arith)
+        each-code (λ c. c ≢ 23) (grantRows (around l (s .train)) (planAt (l .table) b) (boxAt l b) (NextAt b)) (omega arith, (omega arith, omega arith))
     among (Lock b) asked n = locked-first _ _ _ (asked-locked h (w .train) asked)
     among (GiveBack b) asked n = absurd (false≢true (sym n))
     among (Unlock b) asked n = absurd (false≢true (sym n))

@@ -1,8 +1,8 @@
 -- Reading what was written: the table record of the file that `encode` makes is the table's used part, and the file of a table
 -- with code 0 has code 0. The part of a file that a record takes is found by what stands before it (`Stands`).
 use Prim.Native.Nat.{ℕ, zero, suc, _+_, _-_, _*_, _≤_, _<_}
-use mathlib.Core.Path.{_≡_, refl, _∙_, ap}
-use mathlib.Core.Bool.{true}
+use mathlib.Core.Path.{_≡_, refl, sym, _∙_, ap}
+use mathlib.Core.Bool.{Bool, true, false, cond}
 use mathlib.Core.List.{List, [], _∷_, _++_, append-assoc, append-nil}
 use native.Mathlib.Nat.{div-add-mod}
 use native.Mathlib.Numerals.{add-one}
@@ -11,11 +11,12 @@ use lib.ListN.{length, getD, take, drop, length-append}
 use lib.Seq.{take-at, drop-drop, drop-append-seam, getD-drop}
 use Rattle.rules.specs.declared.Table.{Table}
 use Rattle.rules.specs.Rows.{joinOf, filled}
-use Rattle.rules.specs.Track.{segmentAt, planAt, trainPlanAt}
+use Rattle.rules.specs.Track.{segmentAt, planAt, trainPlanAt, wayBy}
+use Rattle.rules.specs.Network.{hasWays}
 use Rattle.rules.specs.Placing.{tableCode}
 use Rattle.rules.specs.File.{segmentSize, boxSize, trainSize, byteAt, marked, versionIn, segmentCount, boxCount, trainCount, segmentStart, boxStart, trainsFrom, trainStart, fileLength, segmentIn, planIn, trainPlanIn, routeIn, decode, fileCode, headBytes, segmentBytes, boxBytes, trainBytes, encode, usedPart}
 use Rattle.rules.proofs.Rows.{list-length, list-same, join-none, join-more, join-same, join-cut, join-length}
-use Rattle.rules.proofs.Accepted.{accepted}
+use Rattle.rules.proofs.Accepted.{Accepted, accepted}
 use Rattle.rules.proofs.Files.{file-iff}
 use Rattle.rules.proofs.UsedPart.{routeOf, used-code}
 
@@ -63,11 +64,18 @@ module _ (t : Table) where
   trains = joinOf (t .k) (trainBytes t)
 
   trainsAt : ℕ
-  trainsAt = 8 + 2 * t .n + 5 * t .m
+  trainsAt = 8 + segmentSize (t .version) * t .n + 5 * t .m
 
-  pub segments-length : (i : ℕ) → length (joinOf i (segmentBytes t)) ≡ 2 * i
-  unfolding segmentBytes
-  segments-length i = join-length (segmentBytes t) 2 (λ s. refl) i
+  pub segment-length : (s : ℕ) → length (segmentBytes t s) ≡ segmentSize (t .version)
+  unfolding segmentBytes segmentSize
+  segment-length s = by (hasWays (t .version))
+    where
+      by : (b : Bool) → length (segmentAt t s .a ∷ segmentAt t s .b ∷ cond b (segmentAt t s .way ∷ []) []) ≡ cond b 3 2
+      by true = refl
+      by false = refl
+
+  pub segments-length : (i : ℕ) → length (joinOf i (segmentBytes t)) ≡ segmentSize (t .version) * i
+  segments-length i = join-length (segmentBytes t) (segmentSize (t .version)) segment-length i
 
   pub boxes-length : (i : ℕ) → length (joinOf i (boxBytes t)) ≡ 5 * i
   unfolding boxBytes
@@ -81,7 +89,7 @@ module _ (t : Table) where
   segments-stand : Stands (encode t) 8 segments
   segments-stand = stands-left segments boxes (stands-left (segments ++ boxes) trains body-stands)
 
-  boxes-stand : Stands (encode t) (8 + 2 * t .n) boxes
+  boxes-stand : Stands (encode t) (8 + segmentSize (t .version) * t .n) boxes
   boxes-stand =
       stands-at _ (stands-right segments boxes (stands-left (segments ++ boxes) trains body-stands)) (omega (arith, segments-length (t .n)))
 
@@ -99,23 +107,40 @@ module _ (t : Table) where
   unfolding segmentCount boxCount trainCount byteAt encode headBytes
   counts-read = (refl, refl, refl)
 
-  -- Each segment and each box is read back.
-  segment-back : (i : ℕ) → i < t .n → segmentIn (encode t) (i + 1) ≡ segmentAt t (i + 1)
-  unfolding segmentIn segmentStart segmentSize segmentBytes
-  segment-back i l =
-      let s = stands-at (segmentStart (encode t) (i + 1)) (stands-part (segmentBytes t) (t .n) i l segments-stand) (omega (arith, segments-length i)) in
-      rw (stands-first s, stands-byte s 1)
+  -- Where the segment records and the box records stand.
+  segment-stands : (i : ℕ) → i < t .n → Stands (encode t) (segmentStart (encode t) (i + 1)) (segmentBytes t (i + 1))
+  unfolding segmentStart
+  segment-stands i l =
+      let e : i + 1 - 1 ≡ i = omega arith in
+      stands-at _ (stands-part (segmentBytes t) (t .n) i l segments-stand) (rw (e, version-read) (omega (arith, segments-length i)))
+
+  box-starts : (b : ℕ) → boxStart (encode t) b ≡ 8 + segmentSize (t .version) * t .n + 5 * (b - 1)
+  unfolding boxStart boxSize
+  box-starts b = rw (version-read, counts-read .0)
+
+  -- Each segment and each box is read back. The way of a segment is, if the version can hold it.
+  segment-back : Accepted t → (i : ℕ) → i < t .n → segmentIn (encode t) (i + 1) ≡ segmentAt t (i + 1)
+  unfolding segmentIn segmentBytes wayBy segmentAt
+  segment-back ok i l =
+      let s = segment-stands i l in
+      rw (stands-first s, stands-byte s 1, version-read, by (hasWays (t .version)) refl s)
+    where
+      by : (b : Bool) → hasWays (t .version) ≡ b
+          → Stands (encode t) (segmentStart (encode t) (i + 1)) (segmentAt t (i + 1) .a ∷ segmentAt t (i + 1) .b ∷ cond b (segmentAt t (i + 1) .way ∷ []) [])
+          → cond b (byteAt (encode t) (segmentStart (encode t) (i + 1) + 2)) 0 ≡ segmentAt t (i + 1) .way
+      by true e s = stands-byte s 2
+      by false e s = sym (ok .held e (i + 1) (omega arith))
 
   box-back : (i : ℕ) → i < t .m → planIn (encode t) (i + 1) ≡ planAt t (i + 1)
-  unfolding planIn boxStart segmentSize boxSize boxBytes
+  unfolding planIn boxBytes
   box-back i l =
-      let s = stands-at (boxStart (encode t) (i + 1)) (stands-part (boxBytes t) (t .m) i l boxes-stand) (omega (arith, counts-read, boxes-length i)) in
+      let s = stands-at (boxStart (encode t) (i + 1)) (stands-part (boxBytes t) (t .m) i l boxes-stand) (omega (arith, box-starts (i + 1), boxes-length i)) in
       rw (stands-first s, stands-byte s 1, stands-byte s 2, stands-byte s 3, stands-byte s 4)
 
   -- Each train's record begins after those before it, and it and its route are read back.
   trains-from : (j : ℕ) → j ≤ t .k → trainsAt + length (joinOf j (trainBytes t)) ≡ trainsFrom (encode t) j
-  unfolding trainsFrom boxStart segmentSize boxSize trainSize trainBytes trainsAt
-  trains-from zero l = rw join-none (omega (arith, counts-read))
+  unfolding trainsFrom trainSize trainBytes trainsAt
+  trains-from zero l = rw join-none (omega (arith, counts-read, box-starts (boxCount (encode t) + 1)))
   trains-from (suc j) l =
       let s = stands-at (trainsFrom (encode t) j) (stands-part (trainBytes t) (t .k) j l trains-stand) (trains-from j (omega arith)) in
       rw (stands-byte s 1, ← add-one j, join-more, length-append, list-length) (omega (arith, trains-from j (omega arith)))
@@ -138,22 +163,22 @@ module _ (t : Table) where
       rw (stands-byte s 1) (stands-take (p .length) (stands-right (p .direction ∷ p .length ∷ []) (routeOf t (i + 1)) s) (list-length _ (p .length)))
 
   -- The table record of the written file is the used part of the table.
-  pub decode-encode : decode (encode t) ≡ usedPart t
+  pub decode-encode : Accepted t → decode (encode t) ≡ usedPart t
   unfolding decode usedPart
-  decode-encode =
+  decode-encode ok =
       rw (
         version-read,
         counts-read .0,
         counts-read .1,
         counts-read .2,
-        list-same (segmentIn (encode t)) (segmentAt t) (t .n) segment-back,
+        list-same (segmentIn (encode t)) (segmentAt t) (t .n) (segment-back ok),
         list-same (planIn (encode t)) (planAt t) (t .m) box-back,
         list-same (trainPlanIn (encode t)) (trainPlanAt t) (t .k) train-back,
         join-same (λ i. filled 64 0 (routeIn (encode t) i)) (λ i. filled 64 0 (routeOf t i)) (t .k) (λ i l. ap (filled 64 0) (route-back i l)),
       )
 
   -- The written file has the length that it asks for.
-  pub encoded-length : length (encode t) ≡ 8 + 2 * t .n + 5 * t .m + length (joinOf (t .k) (trainBytes t))
+  pub encoded-length : length (encode t) ≡ 8 + segmentSize (t .version) * t .n + 5 * t .m + length (joinOf (t .k) (trainBytes t))
   unfolding encode headBytes
   encoded-length = simp (length-append, segments-length, boxes-length) (omega arith)
 
@@ -170,4 +195,4 @@ module _ (t : Table) where
   pub file-accepted : tableCode t ≡ 0 → fileCode (encode t) ≡ 0
   file-accepted e =
       file-iff (encode t) .1
-      (record { long = mark-read .1; mark = mark-read .0; whole = file-length; table = accepted _ (rw decode-encode (used-code t e)) })
+      (record { long = mark-read .1; mark = mark-read .0; whole = file-length; table = accepted _ (rw (decode-encode (accepted t e)) (used-code t e)) })

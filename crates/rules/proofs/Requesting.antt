@@ -24,11 +24,11 @@ use Rattle.rules.specs.Invariant.{boxBeyond, Needs, ahead, crossed, near
 use Rattle.rules.proofs.Accepted.{Accepted, BoxOf}
 use Rattle.rules.proofs.Boxes.{far-box, far-listed, position-joins}
 use Rattle.rules.proofs.Routes.{between}
-use Rattle.rules.proofs.Tests.{first-zero-iff, or-true-iff, eqb-true-iff}
+use Rattle.rules.proofs.Tests.{or-true-iff, eqb-true-iff}
 use Rattle.rules.proofs.Frames.{put, holder-set, holder-other}
 use Rattle.rules.proofs.Sound.{Placed}
 use Rattle.rules.proofs.StepKinds.{afterRequest}
-use Rattle.rules.proofs.StepRows.{another-false-iff, address-iff, lock-address-iff, lock-grant-iff}
+use Rattle.rules.proofs.StepRows.{another-false-iff, address-iff, lock-address-iff, next-grant-iff, lock-grant-iff}
 use Rattle.rules.proofs.Change.{ahead-box, Steady, no-more, uses-by, change-fits, fits, on-route, front-low, apart-still}
 
 -- The box of a request is one of the table. A reservation's box lists next.
@@ -230,7 +230,7 @@ module _ {a : Line} (h : Steady a) {i : ℕ} (k : TrainOf (a .table) i) where
           let own = eqb-true _ _ held in
           reserve-fits b next at (own-free _ own) (boxAt a b) own (λ s m. refl) refl refl refl
       by false held next at f =
-          let (free, none) = simp first-zero-iff at f in
+          let (_, free) = next-grant-iff (around a i) (planAt t b) (boxAt a b) b .0 f in
           let (there, listed) = next-box (h .accepted) (h .placed i k) b next at in
           reserve-fits b next at free _ (holder-set (planAt t b) (boxAt a b) asked i listed)
           (λ s m. holder-other (planAt t b) (boxAt a b) asked i m) refl refl refl

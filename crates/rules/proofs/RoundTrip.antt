@@ -10,7 +10,7 @@ use Rattle.rules.specs.Placing.{withoutPlace}
 use Rattle.rules.specs.File.{decode, fileCode, encode, usedPart, writeRefusal, written}
 use Rattle.rules.specs.Line.{startLine, read}
 use Rattle.rules.proofs.Refusals.{accepted-refusal}
-use Rattle.rules.proofs.Accepted.{accepted-code}
+use Rattle.rules.proofs.Accepted.{accepted, accepted-code}
 use Rattle.rules.proofs.Files.{file-iff, write-iff}
 use Rattle.rules.proofs.WriteBack.{written-back}
 use Rattle.rules.proofs.ReadBack.{decode-encode, file-accepted}
@@ -31,9 +31,10 @@ pub table-back : (t : Table) (buffer : List ℕ) → writeRefusal t buffer .code
     → read (take (length (encode t)) (written t buffer)) ≡ record { refusal = withoutPlace 0; line = startLine (usedPart t) }
 unfolding written read
 table-back t buffer e =
-    let taken = file-accepted t (write-iff t buffer .0 e .0) in
-    rw (e, take-append-seam, taken, decode-encode, accepted-refusal (encode t) taken)
+    let coded = write-iff t buffer .0 e .0 in
+    let taken = file-accepted t coded in
+    rw (e, take-append-seam, taken, decode-encode t (accepted t coded), accepted-refusal (encode t) taken)
 
 -- A table that was read is all used part, so that it comes back whole.
 pub table-same : (bytes : List ℕ) → fileCode bytes ≡ 0 → usedPart (decode bytes) ≡ decode bytes
-table-same bytes e = sym (decode-encode (decode bytes)) ∙ ap decode (written-back bytes e)
+table-same bytes e = sym (decode-encode (decode bytes) (file-iff bytes .0 e .table)) ∙ ap decode (written-back bytes e)

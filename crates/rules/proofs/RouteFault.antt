@@ -12,7 +12,7 @@ use Rattle.rules.specs.declared.TrainPlan.{TrainPlan}
 use Rattle.rules.specs.declared.Table.{Table}
 use Rattle.rules.specs.declared.Refusal.{Refusal}
 use Rattle.rules.specs.Rows.{Row, _if_, first}
-use Rattle.rules.specs.Track.{trainPlanAt, Track, trackOf}
+use Rattle.rules.specs.Track.{trainPlanAt, Track, trackOf, wayOf}
 use Rattle.rules.specs.Network.{headRows, networkRows}
 use Rattle.rules.specs.Placing.{withoutPlace, firstFrom, firstOf, placeRows, routePlaceFault, routeFault, routeFaultAt, routesFault, routesFaultIn, placingRows, partsCode, tableCode, partsRefusal, tableRefusal, tellsPlace, refusalBy}
 use Rattle.rules.specs.File.{earlyRows, decode, fileCode, fileRefusal}
@@ -126,10 +126,10 @@ SearchAlone searched c = tellsPlace c ≡ true → c ≡ searched
 other : {searched c : ℕ} → tellsPlace c ≡ false → SearchAlone searched c
 other e h = absurd (false≢true (sym e ∙ h))
 
-placing-alone : (n k : ℕ) (track : Track) (trains : List TrainPlan) (routes : List ℕ)
-    → EachCode (SearchAlone (routesFault n k track trains routes .code)) (placingRows n k track trains routes)
+placing-alone : (n k : ℕ) (track : Track) (way : ℕ → ℕ) (trains : List TrainPlan) (routes : List ℕ)
+    → EachCode (SearchAlone (routesFault n k track trains routes .code)) (placingRows n k track way trains routes)
 unfolding EachCode placingRows tellsPlace
-placing-alone n k track trains routes = (other refl, (λ _. refl, (other refl, other refl)))
+placing-alone n k track way trains routes = (other refl, (λ _. refl, (other refl, (other refl, other refl))))
 
 -- So what a table or a file with code 11 or 28 is refused by is what the search finds, its code too.
 told : (r : Refusal) (rows : List Row) → EachCode (SearchAlone (r .code)) rows → tellsPlace (first rows) ≡ true
@@ -141,15 +141,15 @@ told r rows alone h =
 pub table-told : (t : Table) → tellsPlace (tableCode t) ≡ true → tableRefusal t ≡ routesFaultIn t
 unfolding EachCode tableRefusal partsRefusal tableCode partsCode headRows networkRows tellsPlace
 table-told t =
-    let placed = placing-alone (t .n) (t .k) (trackOf t) (t .trains) (t .routes) in
+    let placed = placing-alone (t .n) (t .k) (trackOf t) (wayOf t) (t .trains) (t .routes) in
     told (routesFaultIn t) _
-    (other refl, (other refl, (other refl, (other refl, (other refl, (other refl, placed))))))
+    (other refl, (other refl, (other refl, (other refl, (other refl, (other refl, (other refl, placed)))))))
 
 pub file-told : (bytes : List ℕ) → tellsPlace (fileCode bytes) ≡ true → fileRefusal bytes ≡ routesFaultIn (decode bytes)
 unfolding EachCode fileRefusal fileCode earlyRows headRows networkRows tellsPlace
 file-told bytes =
     let t = decode bytes in
-    let placed = placing-alone (t .n) (t .k) (trackOf t) (t .trains) (t .routes) in
+    let placed = placing-alone (t .n) (t .k) (trackOf t) (wayOf t) (t .trains) (t .routes) in
     told (routesFaultIn t) _
     (other refl, (other refl, (other refl, (other refl, (other refl, (other refl, (other refl, (other refl, (other refl, placed)))))))))
 

@@ -311,14 +311,14 @@ module _ {ℓ} {A : Type ℓ} where
   filled-past f d places n (suc i) h = filled-rest places d (listOf n f) i (omega (arith, list-length f n))
 
   -- What holds of f 1 .. f n and of what they are filled up with holds of every record.
-  pub filled-each : (f : ℕ → A) (d : A) (places n : ℕ) (P : A → Type 0) → n ≤ places → ((s : ℕ) → 1 ≤ s → s ≤ n → P (f s)) → P d
-      → (s : ℕ) → P (nth (filled places d (listOf n f)) s d)
+  pub filled-each : (f : ℕ → A) (d : A) (places n : ℕ) (P : ℕ → A → Type 0) → n ≤ places → ((s : ℕ) → 1 ≤ s → s ≤ n → P s (f s))
+      → ((s : ℕ) → P s d) → (s : ℕ) → P s (nth (filled places d (listOf n f)) s d)
   unfolding nth
-  filled-each f d places n P room these rest zero = rest
+  filled-each f d places n P room these rest zero = rest zero
   filled-each f d places n P room these rest (suc i) =
       elim (decLt i n) [
         | yes h ↦ rw (filled-record f d places n (suc i) room (omega arith) h) (these (suc i) (omega arith) h)
-        | no h ↦ rw (filled-past f d places n (suc i) (omega arith)) rest
+        | no h ↦ rw (filled-past f d places n (suc i) (omega arith)) (rest (suc i))
       ]
 
   -- Stores of two lists joined are those of the first and then those of the second.

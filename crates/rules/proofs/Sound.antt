@@ -14,7 +14,7 @@ use Rattle.rules.specs.declared.Message.the-variants.{Idle, Sent, Answer
 use Rattle.rules.specs.declared.Train.{Train}
 use Rattle.rules.specs.declared.Line.{Line}
 use Rattle.rules.specs.Rows.{first}
-use Rattle.rules.specs.Track.{planAt, positionFits, trackOf, pointAt}
+use Rattle.rules.specs.Track.{planAt, positionFits, trackOf, wayOf, pointAt}
 use Rattle.rules.specs.declared.Around.{Around}
 use Rattle.rules.specs.Line.{aroundTrain, boxAt, trainAt}
 use Rattle.rules.specs.Steps.{mostCovered, addressRows}
@@ -79,7 +79,7 @@ pub record LineSound (l : Line) : Type 0 where
 
 -- A train and a box: the check finds nothing exactly where this holds.
 train-iff : (t : Table) (routes : List ℕ) (i : ℕ) (r : Train)
-    → (trainFault (t .n) (trackOf t) (pointAt t) routes i r ≡ false)
+    → (trainFault (t .n) (trackOf t) (wayOf t) (pointAt t) routes i r ≡ false)
     ↔ (Placed t routes i r × MessageSound (aroundTrain t routes i r) r (r .message))
 unfolding trainFault
 train-iff t routes i r =

@@ -36,7 +36,7 @@ answer-code v p x q = box-each (λ c. answerCode q c ≡ true) v p x q (yes q) (
     yes (Unlock b) = refl
 
     by : (q : Request) → givesBack q ≡ false → EachCode (λ c. answerCode q c ≡ true) (grantRows v p x (holding q))
-    by (Reserve b) n = (refl, refl)
+    by (Reserve b) n = (refl, (refl, refl))
     by (Lock b) n = (refl, (refl, (refl, refl)))
     by (GiveBack b) n = absurd (false≢true (sym n))
     by (Unlock b) n = absurd (false≢true (sym n))

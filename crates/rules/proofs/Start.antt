@@ -88,15 +88,15 @@ module _ (t : Table) (a : Accepted t) where
       : (P : Train → Type 0) → ((i : ℕ) → TrainOf t i → P (startTrain (t .trains) i)) → P noTrain → (i : ℕ) → P (trainAt (startLine t) i)
   unfolding startLine trainAt
   each-start-train P these none =
-      filled-each (startTrain (t .trains)) noTrain 16 (t .k) P (a .limits .trainsHigh)
-      (λ i l h. these i (record { low = l; high = h })) none
+      filled-each (startTrain (t .trains)) noTrain 16 (t .k) (λ _. P) (a .limits .trainsHigh)
+      (λ i l h. these i (record { low = l; high = h })) (λ _. none)
 
-  each-start-box
-      : (P : SwitchBox → Type 0) → ((b : ℕ) → BoxOf (t .m) b → P (startBox t b)) → P noBox → (b : ℕ) → P (boxAt (startLine t) b)
+  pub each-start-box
+      : (P : ℕ → SwitchBox → Type 0) → ((b : ℕ) → P b (startBox t b)) → ((b : ℕ) → P b noBox) → (b : ℕ) → P b (boxAt (startLine t) b)
   unfolding startLine boxAt
   each-start-box P these none =
       filled-each (startBox t) noBox 96 (t .m) P (a .limits .boxesHigh)
-      (λ b l h. these b (record { low = l; high = h })) none
+      (λ b l h. these b) none
 
   -- No train has a message, so there is none to take away. No sensor is active, and no lock is held.
   pub start-message : (i : ℕ) → trainAt (startLine t) i .message ≡ Idle
@@ -108,11 +108,11 @@ module _ (t : Table) (a : Accepted t) where
 
   start-sensor : (b : ℕ) → boxAt (startLine t) b .sensor ≡ false
   unfolding startBox startBoxWith
-  start-sensor = each-start-box (λ x. x .sensor ≡ false) (λ b h. refl) refl
+  start-sensor = each-start-box (λ _ x. x .sensor ≡ false) (λ b. refl) (λ b. refl)
 
   start-lock : (b : ℕ) → boxAt (startLine t) b .lock ≡ 0
   unfolding startBox startBoxWith
-  start-lock = each-start-box (λ x. x .lock ≡ 0) (λ b h. refl) refl
+  start-lock = each-start-box (λ _ x. x .lock ≡ 0) (λ b. refl) (λ b. refl)
 
   -- The first segment of a train is reserved for it at the box ahead.
   start-reserved : (i : ℕ) → TrainOf t i

@@ -121,6 +121,13 @@ pub lock-address-iff : (v : Around) (b : ℕ) → (addressed v (LockAt b) ≡ tr
 unfolding addressed
 lock-address-iff v b = simp facts Iff·rfl
 
+-- A box gives a reservation: the train does not run against the way of its next segment, and nobody else holds that.
+pub next-grant-iff : (v : Around) (p : BoxPlan) (x : SwitchBox) (b : ℕ)
+    → (first (grantRows v p x (NextAt b)) ≡ 0) ↔ ((v .against ≡ false) × (another (v .number) (holderOf p x (v .next)) ≡ false))
+unfolding grantRows
+next-grant-iff v p x b =
+    simp (first-zero-iff, first-none) (λ (along, (free, none)). (along, free), λ (along, free). (along, (free, refl)))
+
 -- A box gives its lock: it is nobody else's, its sensor is passive, and front and next are reserved for the train there.
 pub lock-grant-iff : (v : Around) (p : BoxPlan) (x : SwitchBox) (b : ℕ)
     → (first (grantRows v p x (LockAt b)) ≡ 0)

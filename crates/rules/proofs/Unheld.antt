@@ -15,7 +15,7 @@ use Rattle.rules.specs.declared.Around.{Around}
 use Rattle.rules.specs.Line.{requestBox, holderOf, setHolder, holding, givesBack, holdingBox}
 use Rattle.rules.specs.Steps.{stands, given, freed, granted, sensed, released}
 use Rattle.rules.proofs.Tests.{cond-each}
-use Rattle.rules.proofs.Frames.{holder-other}
+use Rattle.rules.proofs.Frames.{holder-own, holder-other}
 use Rattle.rules.proofs.StepRows.{granted-each}
 
 -- What a box has for a train hangs on the train's number and its next segment.
@@ -36,16 +36,11 @@ module _ (v : Around) (nobody : eqb 0 (v .number) ≡ false) (p : BoxPlan) where
 
   -- Once segment s is reserved for another or free, it is not the train's, nor is one that was not before.
   set-off : (x : SwitchBox) (s a n : ℕ) → Other a → (n ≢ s → Other (holderOf p x n)) → Other (holderOf p (setHolder p x s a) n)
-  unfolding holderOf setHolder
   set-off x s a n new others =
       elim (ℕ-discrete n s) [
-        | yes e ↦ rw e (own (eqb s (p .stem)) _ _ (own (eqb s (p .left)) _ _ (own (eqb s (p .right)) _ _ nobody)))
+        | yes e ↦ rw e (holder-own p x s a Other nobody new)
         | no m ↦ rw (holder-other p x s a m) (others m)
       ]
-    where
-      own : (c : Bool) (y rest : ℕ) → Other rest → Other (cond c (cond c a y) rest)
-      own true y rest h = new
-      own false y rest h = h
 
   -- What the train gives back is not its own after the box's yes.
   pub returned-off : (x : SwitchBox) (q : Request) → givesBack q ≡ true → Off (granted v p x q) (holding q)

@@ -1,21 +1,22 @@
 -- The conditions on a table look only at its used part: where a table's code is 0, so is that of its used part.
 use Prim.Native.Nat.{ℕ, zero, suc, _+_, _-_, _*_, _≤_, _<_}
 use mathlib.Core.Path.{_≡_, refl, _∙_, ap}
-use mathlib.Core.Bool.{Bool}
+use mathlib.Core.Bool.{Bool, not}
 use mathlib.Core.List.{List}
 use native.Mathlib.Decide.{ℕ-discrete, decLe}
 use native.Mathlib.Numerals.{add-one}
 use native.Mathlib.Omega.{arith}
+use lib.Dec.{eqb}
 use lib.ListN.{getD}
 use borrow.Author.Tests.{lt-ltb}
 use Rattle.rules.specs.declared.Segment.{Segment}
 use Rattle.rules.specs.declared.Table.{Table}
 use Rattle.rules.specs.declared.Refusal.{Refusal}
 use Rattle.rules.specs.Rows.{anyOf, nth, listOf, joinOf, filled}
-use Rattle.rules.specs.Track.{noSegment, noBoxPlan, noTrainPlan, segmentAt, planAt, trainPlanAt, routeAt, trackOf, trackBy, farBox, nearBox, follows}
+use Rattle.rules.specs.Track.{noSegment, noBoxPlan, noTrainPlan, segmentAt, planAt, trainPlanAt, routeAt, trackOf, trackBy, wayOf, wayBy, farBox, nearBox, follows}
 use Rattle.rules.specs.Loop.{hasLoop}
-use Rattle.rules.specs.Network.{endsFault, planFault, hasEndA, hasEndB, listedFault, sideFault, boxFault, planFaultAt, boxFaultAt, unlistedFault, headRows, networkRows}
-use Rattle.rules.specs.Placing.{firstOf, routeShapeFault, placeRows, routePlaceFault, routeFault, startFault, shapeFaultAt, routeFaultAt, routesFault, placingRows, partsCode, tableCode}
+use Rattle.rules.specs.Network.{waysFault, endsFault, segmentFault, planFault, hasEndA, hasEndB, listedFault, sideFault, boxFault, planFaultAt, boxFaultAt, unlistedFault, headRows, networkRows}
+use Rattle.rules.specs.Placing.{firstOf, routeShapeFault, placeRows, routePlaceFault, routeFault, startFault, againstFaultAt, shapeFaultAt, routeFaultAt, routesFault, placingRows, partsCode, tableCode}
 use Rattle.rules.specs.File.{usedPart}
 use Rattle.rules.proofs.Rows.{any-same, filled-length, filled-same, join-at, list-at, filled-nth}
 use Rattle.rules.proofs.Loop.{loop-same}
@@ -62,9 +63,18 @@ module _ (t u : Table) (same : SameUse t u) (ok : Accepted t) where
   unfolding trackBy segmentAt
   b-same s h = ap (λ (x : Segment). x .b) (same .segments s h)
 
-  ends-same : (s : ℕ) → 1 ≤ s → s ≤ t .n → endsFault (u .m) (trackOf u) s ≡ endsFault (t .m) (trackOf t) s
-  unfolding endsFault
-  ends-same s l h = rw (a-same s h, b-same s h, same .m)
+  way-same : (s : ℕ) → s ≤ t .n → wayOf u s ≡ wayOf t s
+  unfolding wayBy segmentAt
+  way-same s h = ap (λ (x : Segment). x .way) (same .segments s h)
+
+  segment-same : (s : ℕ) → 1 ≤ s → s ≤ t .n → segmentFault (u .m) (trackOf u) (wayOf u) s ≡ segmentFault (t .m) (trackOf t) (wayOf t) s
+  unfolding segmentFault endsFault
+  segment-same s l h = rw (a-same s h, b-same s h, way-same s h, same .m)
+
+  -- Code 3 of a record.
+  held-same : waysFault (u .version) (u .n) (wayOf u) ≡ waysFault (t .version) (t .n) (wayOf t)
+  unfolding waysFault
+  held-same = rw (same .version, test-same {f = λ s. not (eqb (wayOf u s) 0)} {g = λ s. not (eqb (wayOf t s) 0)} (same .n) (λ s l h. rw (way-same s h)))
 
   follows-same : (d s x : ℕ) → s ≤ t .n → x ≤ t .n → follows (trackOf u) d s x ≡ follows (trackOf t) d s x
   unfolding follows farBox nearBox
@@ -103,7 +113,7 @@ module _ (t u : Table) (same : SameUse t u) (ok : Accepted t) where
       ap (λ (n : ℕ). hasLoop n (trackOf u)) (same .n)
       ∙ loop-same (t .n) (trackOf t) (trackOf u) (λ s x h k. follows-same 0 s x (h .high) (k .high))
 
-  -- Codes 10 to 12 and 28 at a train.
+  -- Codes 10 to 12, 28 and 32 at a train.
   shape-same : (i : ℕ) → 1 ≤ i → i ≤ t .k
       → routeShapeFault (trainPlanAt u i .direction) (trainPlanAt u i .length) ≡ routeShapeFault (trainPlanAt t i .direction) (trainPlanAt t i .length)
   shape-same i l h = rw (same .trains i h)
@@ -129,12 +139,20 @@ module _ (t u : Table) (same : SameUse t u) (ok : Accepted t) where
       test-same refl λ j low high.
       rw (same .routes i 1 h (ok .routes i (omega arith) .low), same .routes j 1 (omega arith) (ok .routes j (omega arith) .low))
 
+  against-same : (i : ℕ) → 1 ≤ i → i ≤ t .k
+      → againstFaultAt (wayOf u) (u .trains) (u .routes) i ≡ againstFaultAt (wayOf t) (t .trains) (t .routes) i
+  unfolding againstFaultAt trainPlanAt
+  against-same i l h =
+      let one = ok .routes i (omega arith) .low in
+      rw (same .trains i h, same .routes i 1 h one, way-same _ (route-high t ok i 1 l h one))
+
   -- So the other has the same code.
   same-code : tableCode u ≡ tableCode t
   unfolding tableCode partsCode headRows networkRows placingRows routesFault planFaultAt boxFaultAt shapeFaultAt routeFaultAt planAt trainPlanAt
   same-code =
       rw (
-        test-same (same .n) ends-same,
+        held-same,
+        test-same (same .n) segment-same,
         test-same (same .m) plan-same,
         test-same (same .m) box-same,
         test-same (same .n) unlisted-same,
@@ -142,6 +160,7 @@ module _ (t u : Table) (same : SameUse t u) (ok : Accepted t) where
         test-same (same .k) shape-same,
         search-same (same .k) route-same,
         test-same (same .k) start-same,
+        test-same (same .k) against-same,
         same .version,
         same .n,
         same .m,

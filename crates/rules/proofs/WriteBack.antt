@@ -3,28 +3,26 @@
 -- as `encode` gives them, and the last train ends where the file does.
 use Prim.Native.Nat.{ℕ, suc, _+_, _-_, _*_, _/_, _%_, _≤_, _<_}
 use mathlib.Core.Path.{_≡_, _∙_}
-use mathlib.Core.List.{List, _++_}
+use mathlib.Core.Logic.{⊎-elim}
+use mathlib.Core.Bool.{Bool, true, false, cond}
+use mathlib.Core.List.{List, [], _∷_, _++_}
 use native.Mathlib.Numerals.{add-one, towards-suc}
 use native.Mathlib.Omega.{arith}
 use lib.ListN.{drop}
 use lib.Seq.{getD-take, getD-drop}
 use Rattle.rules.specs.Rows.{listFrom, listOf, joinOf}
-use Rattle.rules.specs.Track.{noSegment, noBoxPlan, noTrainPlan, segmentAt, planAt, trainPlanAt, routeAt}
-use Rattle.rules.specs.File.{segmentSize, boxSize, trainSize, byteAt, marked, versionIn, segmentCount, boxCount, trainCount, segmentStart, boxStart, trainsFrom, trainStart, fileLength, segmentIn, planIn, trainPlanIn, routeIn, decode, fileCode, headBytes, segmentBytes, boxBytes, trainBytes, encode}
-use Rattle.rules.specs.Network.{knownVersion}
-use Rattle.rules.proofs.Tests.{facts}
+use Rattle.rules.specs.Track.{noBoxPlan, noTrainPlan, planAt, trainPlanAt, routeAt}
+use Rattle.rules.specs.File.{headSize, segmentSize, boxSize, trainSize, byteAt, marked, versionIn, segmentCount, boxCount, trainCount, segmentStart, boxStart, trainsFrom, trainStart, fileLength, segmentIn, planIn, trainPlanIn, routeIn, decode, fileCode, headBytes, segmentBytes, boxBytes, trainBytes, encode}
+use Rattle.rules.specs.Network.{knownVersion, hasWays}
+use Rattle.rules.proofs.Tests.{facts, or-true-iff, eqb-true-iff}
 use Rattle.rules.proofs.Rows.{nth-at, filled-list-at, from-same, from-all, join-parts}
 use Rattle.rules.proofs.Accepted.{Limits}
-use Rattle.rules.proofs.Files.{AcceptedFile, file-iff}
+use Rattle.rules.proofs.Files.{AcceptedFile, segment-read, file-iff}
 use Rattle.rules.proofs.UsedPart.{route-filled}
 
 -- What the table record has of a file.
 module _ (bytes : List ℕ) where
-  -- Segment, box and train i + 1 are those of the file, if the table has room for them.
-  pub segment-read : segmentCount bytes ≤ 96 → (i : ℕ) → i < segmentCount bytes → segmentAt (decode bytes) (i + 1) ≡ segmentIn bytes (i + 1)
-  unfolding segmentAt decode
-  segment-read few i h = rw (nth-at, filled-list-at (segmentIn bytes) noSegment 96 (segmentCount bytes) i h (omega arith))
-
+  -- Box and train i + 1 are those of the file, if the table has room for them.
   pub plan-read : boxCount bytes ≤ 96 → (i : ℕ) → i < boxCount bytes → planAt (decode bytes) (i + 1) ≡ planIn bytes (i + 1)
   unfolding planAt decode
   plan-read few i h = rw (nth-at, filled-list-at (planIn bytes) noBoxPlan 96 (boxCount bytes) i h (omega arith))
@@ -58,19 +56,30 @@ module _ (bytes : List ℕ) (a : AcceptedFile bytes) where
   route-short i h =
       rw (train-read bytes (limits .trainsHigh) i h) at (a .table .routes (i + 1) (omega arith) .high)
 
+  -- Its version fits into the lower of its two bytes.
+  version-low : versionIn bytes < 256
+  unfolding decode knownVersion
+  version-low = ⊎-elim (λ e. omega arith) (λ e. omega arith)
+      (or-true-iff _ _ (eqb-true-iff (versionIn bytes) 1) (eqb-true-iff (versionIn bytes) 2) .0 (a .table .version))
+
   -- The head of the table record, its segment and box i + 1, a place of a route and train i + 1 are written as they stand in the file.
   head-written : headBytes (decode bytes) ≡ part bytes 0 8
-  unfolding headBytes decode marked knownVersion versionIn segmentCount boxCount trainCount listFrom
+  unfolding headBytes decode marked versionIn segmentCount boxCount trainCount listFrom
   head-written =
       let mark = simp facts at (a .mark) in
-      let version : 256 * byteAt bytes 3 + byteAt bytes 4 ≡ 1 = simp facts at (a .table .version) in
-      let high : versionIn bytes / 256 ≡ byteAt bytes 3 = omega arith in
-      let low : versionIn bytes % 256 ≡ byteAt bytes 4 = omega arith in
+      let high : versionIn bytes / 256 ≡ byteAt bytes 3 = omega (arith, version-low) in
+      let low : versionIn bytes % 256 ≡ byteAt bytes 4 = omega (arith, version-low) in
       cc
 
-  segment-written : (i : ℕ) → i < segmentCount bytes → segmentBytes (decode bytes) (i + 1) ≡ part bytes (segmentStart bytes (i + 1)) 2
-  unfolding segmentBytes segmentIn listFrom
-  segment-written i h = rw (segment-read bytes (limits .segmentsHigh) i h) (simp towards-suc)
+  segment-written : (i : ℕ) → i < segmentCount bytes
+      → segmentBytes (decode bytes) (i + 1) ≡ part bytes (segmentStart bytes (i + 1)) (segmentSize (versionIn bytes))
+  unfolding segmentBytes segmentIn segmentSize decode listFrom
+  segment-written i h = rw (segment-read bytes (limits .segmentsHigh) i h) (by (hasWays (versionIn bytes)))
+    where
+      by : (b : Bool) → let at = segmentStart bytes (i + 1) in
+          byteAt bytes at ∷ byteAt bytes (at + 1) ∷ cond b (cond b (byteAt bytes (at + 2)) 0 ∷ []) [] ≡ part bytes at (cond b 3 2)
+      by true = simp towards-suc
+      by false = simp towards-suc
 
   box-written : (i : ℕ) → i < boxCount bytes → boxBytes (decode bytes) (i + 1) ≡ part bytes (boxStart bytes (i + 1)) 5
   unfolding boxBytes planIn listFrom
@@ -104,7 +113,12 @@ module _ (bytes : List ℕ) (a : AcceptedFile bytes) where
   segments-written : part bytes 0 (segmentStart bytes 1) ++ joinOf (segmentCount bytes) (segmentBytes (decode bytes))
       ≡ part bytes 0 (segmentStart bytes (segmentCount bytes + 1))
   unfolding segmentStart segmentSize
-  segments-written = join-parts _ _ (λ i. segmentStart bytes (i + 1)) _ (segmentCount bytes) segment-written (λ i h. omega arith)
+  segments-written =
+      join-parts _ _ (λ i. segmentStart bytes (i + 1)) _ (segmentCount bytes) segment-written (λ i h. by (hasWays (versionIn bytes)) i)
+    where
+      by : (b : Bool) (i : ℕ) → headSize + cond b 3 2 * (i + 1 + 1 - 1) ≡ headSize + cond b 3 2 * (i + 1 - 1) + cond b 3 2
+      by true i = omega arith
+      by false i = omega arith
 
   boxes-written : part bytes 0 (boxStart bytes 1) ++ joinOf (boxCount bytes) (boxBytes (decode bytes))
       ≡ part bytes 0 (boxStart bytes (boxCount bytes + 1))
@@ -115,13 +129,22 @@ module _ (bytes : List ℕ) (a : AcceptedFile bytes) where
       ≡ part bytes 0 (trainStart bytes (trainCount bytes + 1))
   trains-written = join-parts _ _ (λ i. trainStart bytes (i + 1)) _ (trainCount bytes) train-written next-train
 
+  -- The segments begin behind the head, and the boxes behind the segments.
+  segments-begin : segmentStart bytes 1 ≡ 8
+  unfolding segmentStart
+  segments-begin = omega arith
+
+  boxes-begin : segmentStart bytes (segmentCount bytes + 1) ≡ boxStart bytes 1
+  unfolding segmentStart boxStart
+  boxes-begin = let all : segmentCount bytes + 1 - 1 ≡ segmentCount bytes = omega arith in rw all (omega arith)
+
   -- The table record is written as the file.
   all-written : encode (decode bytes) ≡ bytes
-  unfolding encode decode segmentStart boxStart segmentSize trainStart trainsFrom fileLength byteAt
+  unfolding encode decode trainStart trainsFrom fileLength byteAt
   all-written =
-      let boxes : segmentStart bytes (segmentCount bytes + 1) ≡ boxStart bytes 1 = omega arith in
+      let segments = rw segments-begin at segments-written in
       let last : trainCount bytes + 1 - 1 ≡ trainCount bytes = omega arith in
-      rw (head-written, segments-written, boxes, boxes-written, trains-written, last, ← a .whole) (from-all bytes 0)
+      rw (head-written, segments, boxes-begin, boxes-written, trains-written, last, ← a .whole) (from-all bytes 0)
 
 -- The bytes of the table record of an accepted file are the file's own.
 pub written-back : (bytes : List ℕ) → fileCode bytes ≡ 0 → encode (decode bytes) ≡ bytes

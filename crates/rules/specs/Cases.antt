@@ -1,5 +1,5 @@
 -- The cases of 01 ("Checked on S and beside it", and the printout of table S), and the form of a case. With the cases of
--- FileCases, StepCases, RunCases and RecordCases they are one list, and proofs/Cases.antt proves that the definitions give what
+-- FileCases and the modules after it they are one list, that of AllCases, and proofs/Cases.antt proves that the definitions give what
 -- each expects.
 use Prim.Native.Nat.{ℕ, _+_, _-_, _*_}
 use mathlib.Core.List.{List, [], _∷_, _++_}

@@ -1,5 +1,5 @@
 -- What else holds after every list of steps from the start line of an accepted table, and of any further step.
-use Prim.Native.Nat.{ℕ}
+use Prim.Native.Nat.{ℕ, _+_}
 use mathlib.Core.Path.{_≡_}
 use mathlib.Core.Logic.{_⊎_, _≢_}
 use mathlib.Core.Bool.{Bool, true, false, _&&_, _||_}
@@ -9,15 +9,16 @@ use Rattle.rules.specs.declared.Table.{Table}
 use Rattle.rules.specs.declared.Holding.{Holding}
 use Rattle.rules.specs.declared.Holding.the-variants.{NextAt, LockAt}
 use Rattle.rules.specs.declared.Request.{Request}
-use Rattle.rules.specs.declared.Request.the-variants.{Lock}
+use Rattle.rules.specs.declared.Request.the-variants.{Reserve, Lock}
 use Rattle.rules.specs.declared.Message.the-variants.{Idle, Sent, Answered}
+use Rattle.rules.specs.Track.{trainPlanAt, wayOf, runsAgainst}
 use Rattle.rules.specs.File.{fileCode, decode}
 use Rattle.rules.specs.Line.{startLine, boxAt, trainAt, holding, givesBack}
 use Rattle.rules.specs.Steps.{Step, step}
 use Rattle.rules.specs.Record.{recordFault, checkedStep}
 use Rattle.rules.specs.History.{Event, lineAfter, events, accepted}
 use Rattle.rules.specs.Atomic.{requests, keptAfter, isGranted}
-use Rattle.rules.specs.Safety.{TrainOf, reached, history, whereIs, atomic, CrossesBox}
+use Rattle.rules.specs.Safety.{TrainOf, onRoute, Covers, reached, history, whereIs, atomic, CrossesBox}
 use Rattle.rules.specs.Invariant.{Granted, believed, heldFor, Invariant}
 
 -- Some event of a list is of this sort.
@@ -50,6 +51,16 @@ pub record Consequences (t : Table) (steps : List Step) : Type 0 where
   pub lockTold
       : (i q b : ℕ) → TrainOf t i → CrossesBox t i (whereIs t steps i) q b → (s : Step) → s .kind ≡ 3 → s .box ≡ 0 → TrainOf t (s .train)
       → trainAt (reached t steps) (s .train) .message ≡ Sent (Lock b) → step (reached t steps) s .code ≡ 24
+  -- No train covers a segment against its way: it stands on none at the start, and enters none.
+  pub along
+      : (i : ℕ) → TrainOf t i → (q : ℕ) → Covers (whereIs t steps i) q
+      → runsAgainst (trainPlanAt t i .direction) (wayOf t (onRoute t i q)) ≡ false
+  -- A reservation of a segment against its way is answered 31.
+  pub wayTold
+      : (s : Step) (b : ℕ) → s .kind ≡ 3 → s .box ≡ 0 → TrainOf t (s .train)
+      → trainAt (reached t steps) (s .train) .message ≡ Sent (Reserve b)
+      → runsAgainst (trainPlanAt t (s .train) .direction) (wayOf t (onRoute t (s .train) (whereIs t steps (s .train) .place + 1))) ≡ true
+      → step (reached t steps) s .code ≡ 31
   -- No message is open where a train enters.
   pub silent
       : (s : Step) → s .kind ≡ 5 → step (reached t steps) s .code ≡ 0 → trainAt (reached t steps) (s .train) .message ≡ Idle

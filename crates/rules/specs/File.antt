@@ -1,4 +1,4 @@
--- The table file (01, "Table file"; codes 1 to 5 and 26): bytes to a table record and back.
+-- The table file (01, "Table file"; codes 1 to 5 and 26; 02, ticket 6: version 2): bytes to a table record and back.
 use Prim.Native.Nat.{ℕ, zero, suc, _+_, _-_, _*_, _/_, _%_}
 use mathlib.Core.Bool.{Bool, cond, not, _&&_}
 use mathlib.Core.List.{List, [], _∷_, _++_}
@@ -11,7 +11,7 @@ use Rattle.rules.specs.declared.Table.{Table}
 use Rattle.rules.specs.declared.Refusal.{Refusal}
 use Rattle.rules.specs.Rows.{Row, _if_, first, outside, listOf, joinOf, filled}
 use Rattle.rules.specs.Track.{noSegment, noBoxPlan, noTrainPlan, segmentAt, planAt, trainPlanAt, routeAt}
-use Rattle.rules.specs.Network.{headRows}
+use Rattle.rules.specs.Network.{hasWays, headRows}
 use Rattle.rules.specs.Placing.{routesFaultIn, conditionRows, refusalBy, tableRefusal, refusedThen}
 
 -- The sizes of a file's parts, by its version: the head, a segment record, a box record, and a train record without its route.
@@ -19,7 +19,7 @@ abbrev pub headSize : ℕ
 headSize = 8
 
 unfoldable pub segmentSize : ℕ → ℕ
-segmentSize version = 2
+segmentSize version = cond (hasWays version) 3 2
 
 unfoldable pub boxSize : ℕ → ℕ
 boxSize version = 5
@@ -74,7 +74,11 @@ fileLength bytes = trainsFrom bytes (trainCount bytes)
 unfoldable pub segmentIn : List ℕ → ℕ → Segment
 segmentIn bytes s =
     let at = segmentStart bytes s in
-    record { a = byteAt bytes at; b = byteAt bytes (at + 1) }
+    record {
+      a = byteAt bytes at;
+      b = byteAt bytes (at + 1);
+      way = cond (hasWays (versionIn bytes)) (byteAt bytes (at + 2)) 0;
+    }
 
 unfoldable pub planIn : List ℕ → ℕ → BoxPlan
 planIn bytes b =
@@ -121,7 +125,7 @@ earlyRows bytes =
     ∷ headRows (versionIn bytes) (segmentCount bytes) (boxCount bytes) (trainCount bytes)
     ++ (5 if not (eqb (length bytes) (fileLength bytes)) ∷ [])
 
--- The code of a file: 1 to 12 or 28, or 0; and why it is refused.
+-- The code of a file: 1 to 12, 28 or 32, or 0; and why it is refused.
 unfoldable pub fileCode : List ℕ → ℕ
 fileCode bytes = first (earlyRows bytes ++ conditionRows (decode bytes))
 
@@ -145,7 +149,9 @@ headBytes t =
     0x4E ∷ 0x45 ∷ 0x54 ∷ t .version / 256 ∷ t .version % 256 ∷ t .n ∷ t .m ∷ t .k ∷ []
 
 unfoldable pub segmentBytes : Table → ℕ → List ℕ
-segmentBytes t s = segmentAt t s .a ∷ segmentAt t s .b ∷ []
+segmentBytes t s =
+    let p = segmentAt t s in
+    p .a ∷ p .b ∷ cond (hasWays (t .version)) (p .way ∷ []) []
 
 unfoldable pub boxBytes : Table → ℕ → List ℕ
 boxBytes t b =

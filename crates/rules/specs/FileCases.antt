@@ -60,10 +60,11 @@ headCases =
     changed 0 0 2
     ∷ changed 1 0 2
     ∷ changed 2 0x55 2
-    ∷ changed 4 2 3
+    ∷ changed 4 0 3
+    ∷ changed 4 3 3
     ∷ changed 3 1 3
-    ∷ codeOf (set (set tableS 0 0) 4 2) gives (2 ∷ 0 ∷ 0 ∷ [])
-    ∷ codeOf (set (set tableS 4 2) 5 0) gives (3 ∷ 0 ∷ 0 ∷ [])
+    ∷ codeOf (set (set tableS 0 0) 4 3) gives (2 ∷ 0 ∷ 0 ∷ [])
+    ∷ codeOf (set (set tableS 4 3) 5 0) gives (3 ∷ 0 ∷ 0 ∷ [])
     -- 4: n = 0, m = 1, m = 97, k = 17; the most boxes and trains are accepted.
     ∷ changed 5 0 4
     ∷ changed 6 1 4
@@ -182,7 +183,7 @@ writerCases =
     ∷ writtenTo (decode tableS) (replicate 46 7) gives (0 ∷ 0 ∷ 0 ∷ tableS)
     ∷ writtenTo (decode tableS) (replicate 48 7) gives (0 ∷ 0 ∷ 0 ∷ tableS ++ (7 ∷ 7 ∷ []))
     -- The table's code comes before 26.
-    ∷ writtenTo (decode (set tableS 4 2)) [] gives (3 ∷ 0 ∷ 0 ∷ [])
+    ∷ writtenTo (decode (set tableS 4 3)) [] gives (3 ∷ 0 ∷ 0 ∷ [])
     ∷ writtenTo (decode (set tableS 5 97)) [] gives (4 ∷ 0 ∷ 0 ∷ [])
     ∷ writtenTo (decode (set tableS 9 1)) (replicate 3 7) gives (6 ∷ 0 ∷ 0 ∷ replicate 3 7)
     ∷ writtenTo (emptyLine .table) (7 ∷ []) gives (3 ∷ 0 ∷ 0 ∷ 7 ∷ [])

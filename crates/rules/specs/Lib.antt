@@ -1,9 +1,9 @@
 -- The paper as definitions, in reading order.
 -- Rows of codes and lists counted from 1.
 pub mod Rows
--- The line: records by number, the track, boxes, directions.
+-- The line: records by number, the track, the ways of segments, boxes, directions.
 pub mod Track
--- Codes 3, 4, 6 to 12 and 28: a table is accepted. Each condition stands once, over the track and the other parts that it asks
+-- Codes 3, 4, 6 to 12, 28 and 32: a table is accepted. Each condition stands once, over the track and the other parts that it asks
 -- for; `conditionRows` and `tableCode` put a table's own parts in.
 pub mod Loop
 pub mod Network
@@ -15,7 +15,7 @@ pub mod RouteFault
 pub mod File
 -- The line record, its start, and what stands around a train.
 pub mod Line
--- Steps of kinds 1 to 10, codes 13 to 25, 29 and 30.
+-- Steps of kinds 1 to 10, codes 13 to 25 and 29 to 31.
 pub mod Steps
 -- Code 27: the check of a line record.
 pub mod Record
@@ -38,5 +38,7 @@ pub mod StepCases
 pub mod RadioCases
 pub mod RunCases
 pub mod RecordCases
+pub mod OneWayCases
+pub mod AllCases
 -- Examples of what demand 3 says.
 pub mod Examples

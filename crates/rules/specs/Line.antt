@@ -19,7 +19,7 @@ use Rattle.rules.specs.declared.Line.{Line}
 use Rattle.rules.specs.declared.Around.{Around}
 use Rattle.rules.specs.declared.FileOutcome.{FileOutcome}
 use Rattle.rules.specs.Rows.{nth, setNth, listOf, filled}
-use Rattle.rules.specs.Track.{noSegment, noBoxPlan, noTrainPlan, routeAt, Track, trackOf, pointAt, farBox, nearBox}
+use Rattle.rules.specs.Track.{noSegment, noBoxPlan, noTrainPlan, routeAt, Track, trackOf, wayOf, runsAgainst, pointAt, farBox, nearBox}
 use Rattle.rules.specs.File.{fileCode, fileRefusal, decode}
 
 -- What a request is about, and whether it gives that back (kinds 7 and 8) or asks for it (kinds 1 and 2).
@@ -207,10 +207,11 @@ unfoldable pub read : List ℕ → FileOutcome
 read bytes =
     record { refusal = fileRefusal bytes; line = cond (eqb (fileCode bytes) 0) (startLine (decode bytes)) emptyLine }
 
--- What stands around train i with record r, by the track, by which boxes are points, and by its route as it stands in `routes`.
+-- What stands around train i with record r, by the track, the ways of segments, which boxes are points, and its route as it stands in
+-- `routes`.
 -- On a route that follows, the near end of next is at the box ahead. Where there is no next, code 16 comes before its use.
-unfoldable pub aroundOn : Track → (ℕ → Bool) → List ℕ → ℕ → Train → Around
-aroundOn track point routes i r =
+unfoldable pub aroundOn : Track → (ℕ → ℕ) → (ℕ → Bool) → List ℕ → ℕ → Train → Around
+aroundOn track way point routes i r =
     let segment : ℕ → ℕ = λ p. routeAt routes i p in
     let d = r .direction in
     let front = segment (r .place) in
@@ -222,6 +223,7 @@ aroundOn track point routes i r =
       next = next;
       tail = tail;
       second = segment (r .place + 2 - r .covered);
+      against = runsAgainst d (way next);
       ahead = farBox track d front;
       point = point (farBox track d front);
       nearEnd = nearBox track d next;
@@ -231,7 +233,7 @@ aroundOn track point routes i r =
 
 -- The same by a table, and around train i of a line.
 abbrev pub aroundTrain : Table → List ℕ → ℕ → Train → Around
-aroundTrain t = aroundOn (trackOf t) (pointAt t)
+aroundTrain t = aroundOn (trackOf t) (wayOf t) (pointAt t)
 
 unfoldable pub around : Line → ℕ → Around
 around l i = aroundTrain (l .table) (l .routes) i (trainAt l i)

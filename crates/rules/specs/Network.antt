@@ -1,4 +1,4 @@
--- The conditions on a table's network (01, codes 3, 4 and 6 to 9). A row applies where some record of the table breaks the
+-- The conditions on a table's network (01, codes 3, 4 and 6 to 9; 02, ticket 6). A row applies where some record of the table breaks the
 -- condition, so a code is looked for in all records before the next code.
 use Prim.Native.Nat.{ℕ}
 use mathlib.Core.Bool.{Bool, cond, not, _&&_, _||_}
@@ -11,7 +11,15 @@ use Rattle.rules.specs.Loop.{hasLoop}
 
 -- Code 3: the versions that are read.
 unfoldable pub knownVersion : ℕ → Bool
-knownVersion v = eqb v 1
+knownVersion v = eqb v 1 || eqb v 2
+
+-- The segments of a table of this version have a way, from version 2 on; those of version 1 run both ways.
+unfoldable pub hasWays : ℕ → Bool
+hasWays v = leb 2 v
+
+-- Code 3 of a table record: n segments have a way that the version cannot hold.
+unfoldable pub waysFault : ℕ → ℕ → (ℕ → ℕ) → Bool
+waysFault v n way = not (hasWays v) && anyOf n (λ s. not (eqb (way s) 0))
 
 -- Code 4: n, m or k outside its limits.
 unfoldable pub limitsFault : ℕ → ℕ → ℕ → Bool
@@ -20,6 +28,10 @@ limitsFault n m k = outside 96 n || (ltb m 2 || ltb 96 m) || ltb 16 k
 -- Code 6: an end box 0 or above m, or both ends one box.
 unfoldable pub endsFault : ℕ → Track → ℕ → Bool
 endsFault m track s = outside m (track .endA s) || outside m (track .endB s) || eqb (track .endA s) (track .endB s)
+
+-- Code 6 at segment s: its ends, or a way above 2.
+unfoldable pub segmentFault : ℕ → Track → (ℕ → ℕ) → ℕ → Bool
+segmentFault m track way s = endsFault m track s || ltb 2 (way s)
 
 -- Code 7, a place that a box needs, and one that it does not use.
 unfoldable pub placeFault : ℕ → Bool → ℕ → Bool
@@ -85,10 +97,10 @@ unlistedFault track plans s =
 unfoldable pub headRows : ℕ → ℕ → ℕ → ℕ → List Row
 headRows version n m k = 3 if not (knownVersion version) ∷ 4 if limitsFault n m k ∷ []
 
--- The network of n segments and m boxes, by its track and the plans of its boxes: codes 6 to 9.
-unfoldable pub networkRows : ℕ → ℕ → Track → List BoxPlan → List Row
-networkRows n m track plans =
-    6 if anyOf n (endsFault m track)
+-- The network of n segments and m boxes, by its track, the ways of its segments and the plans of its boxes: codes 6 to 9.
+unfoldable pub networkRows : ℕ → ℕ → Track → (ℕ → ℕ) → List BoxPlan → List Row
+networkRows n m track way plans =
+    6 if anyOf n (segmentFault m track way)
     ∷ 7 if anyOf m (planFaultAt n plans)
     ∷ 8 if (anyOf m (boxFaultAt track plans) || anyOf n (unlistedFault track plans))
     ∷ 9 if hasLoop n track

@@ -1,4 +1,4 @@
--- The conditions on a table's trains (01, codes 10 to 12; 02, code 28), all conditions on a table in their order, and why a table is
+-- The conditions on a table's trains (01, codes 10 to 12; 02, codes 28 and 32), all conditions on a table in their order, and why a table is
 -- refused.
 use Prim.Native.Nat.{ℕ, zero, suc, _-_}
 use mathlib.Core.Bool.{Bool, cond, not, _&&_, _||_}
@@ -9,8 +9,8 @@ use Rattle.rules.specs.declared.TrainPlan.{TrainPlan}
 use Rattle.rules.specs.declared.Table.{Table}
 use Rattle.rules.specs.declared.Refusal.{Refusal}
 use Rattle.rules.specs.Rows.{Row, _if_, first, nth, anyOf, outside}
-use Rattle.rules.specs.Track.{noTrainPlan, routeAt, Track, trackOf, follows}
-use Rattle.rules.specs.Network.{headRows, networkRows}
+use Rattle.rules.specs.Track.{noTrainPlan, routeAt, Track, trackOf, wayOf, runsAgainst, follows}
+use Rattle.rules.specs.Network.{waysFault, headRows, networkRows}
 
 -- Code 10: direction d above 1, or route length r outside 1 to 64.
 unfoldable pub routeShapeFault : ℕ → ℕ → Bool
@@ -50,6 +50,10 @@ routeFault n track routes i d r = firstOf r (routePlaceFault n track routes i d)
 unfoldable pub startFault : List ℕ → ℕ → Bool
 startFault routes i = anyOf (i - 1) (λ j. eqb (routeAt routes i 1) (routeAt routes j 1))
 
+-- Code 32 at train i: it starts against the way of its first segment.
+unfoldable pub againstFaultAt : (ℕ → ℕ) → List TrainPlan → List ℕ → ℕ → Bool
+againstFaultAt way trains routes i = runsAgainst (nth trains i noTrainPlan .direction) (way (routeAt routes i 1))
+
 -- Codes 10, and 11 with 28, at train i, by its plan among those of all trains.
 unfoldable pub shapeFaultAt : List TrainPlan → ℕ → Bool
 shapeFaultAt trains i =
@@ -70,30 +74,32 @@ routesFault n k track trains routes = firstOf k (routeFaultAt n track trains rou
 abbrev pub routesFaultIn : Table → Refusal
 routesFaultIn t = routesFault (t .n) (t .k) (trackOf t) (t .trains) (t .routes)
 
--- k trains, by their plans and routes, on n segments of a track: code 10; 11 and 28 in one search; 12.
-unfoldable pub placingRows : ℕ → ℕ → Track → List TrainPlan → List ℕ → List Row
-placingRows n k track trains routes =
+-- k trains, by their plans and routes, on n segments of a track with these ways: code 10; 11 and 28 in one search; 12; 32.
+unfoldable pub placingRows : ℕ → ℕ → Track → (ℕ → ℕ) → List TrainPlan → List ℕ → List Row
+placingRows n k track way trains routes =
     let found = routesFault n k track trains routes .code in
     10 if anyOf k (shapeFaultAt trains)
     ∷ found if not (eqb found 0)
     ∷ 12 if anyOf k (startFault routes)
+    ∷ 32 if anyOf k (againstFaultAt way trains routes)
     ∷ []
 
--- What comes after a table's head, over the table's parts and for a table: codes 6 to 12, and 28. The reader puts code 5 before it.
-abbrev pub partRows : ℕ → ℕ → ℕ → Track → List BoxPlan → List TrainPlan → List ℕ → List Row
-partRows n m k track plans trains routes = networkRows n m track plans ++ placingRows n k track trains routes
+-- What comes after a table's head, over the table's parts and for a table: codes 6 to 12, 28 and 32. The reader puts code 5 before it.
+abbrev pub partRows : ℕ → ℕ → ℕ → Track → (ℕ → ℕ) → List BoxPlan → List TrainPlan → List ℕ → List Row
+partRows n m k track way plans trains routes =
+    networkRows n m track way plans ++ placingRows n k track way trains routes
 
 abbrev pub conditionRows : Table → List Row
-conditionRows t = partRows (t .n) (t .m) (t .k) (trackOf t) (t .boxes) (t .trains) (t .routes)
+conditionRows t = partRows (t .n) (t .m) (t .k) (trackOf t) (wayOf t) (t .boxes) (t .trains) (t .routes)
 
--- The code of a table record, over its parts and for a table: 3, 4, 6 to 12 and 28, or 0. The writer and the record check use the
--- latter.
-unfoldable pub partsCode : ℕ → ℕ → ℕ → ℕ → Track → List BoxPlan → List TrainPlan → List ℕ → ℕ
-partsCode version n m k track plans trains routes =
-    first (headRows version n m k ++ partRows n m k track plans trains routes)
+-- The code of a table record, over its parts and for a table: 3, 4, 6 to 12, 28 and 32, or 0. The writer and the record check use the
+-- latter. What a version cannot hold is in no file of that version, so that the reader does not ask for it.
+unfoldable pub partsCode : ℕ → ℕ → ℕ → ℕ → Track → (ℕ → ℕ) → List BoxPlan → List TrainPlan → List ℕ → ℕ
+partsCode version n m k track way plans trains routes =
+    first (3 if waysFault version n way ∷ headRows version n m k ++ partRows n m k track way plans trains routes)
 
 unfoldable pub tableCode : Table → ℕ
-tableCode t = partsCode (t .version) (t .n) (t .m) (t .k) (trackOf t) (t .boxes) (t .trains) (t .routes)
+tableCode t = partsCode (t .version) (t .n) (t .m) (t .k) (trackOf t) (wayOf t) (t .boxes) (t .trains) (t .routes)
 
 -- The codes that are about a place of a route.
 unfoldable pub tellsPlace : ℕ → Bool
@@ -105,12 +111,12 @@ refusalBy c found =
     record { code = c; train = cond (tellsPlace c) (found .train) 0; place = cond (tellsPlace c) (found .place) 0 }
 
 -- Why a table record is refused, over its parts and for a table.
-unfoldable pub partsRefusal : ℕ → ℕ → ℕ → ℕ → Track → List BoxPlan → List TrainPlan → List ℕ → Refusal
-partsRefusal version n m k track plans trains routes =
-    refusalBy (partsCode version n m k track plans trains routes) (routesFault n k track trains routes)
+unfoldable pub partsRefusal : ℕ → ℕ → ℕ → ℕ → Track → (ℕ → ℕ) → List BoxPlan → List TrainPlan → List ℕ → Refusal
+partsRefusal version n m k track way plans trains routes =
+    refusalBy (partsCode version n m k track way plans trains routes) (routesFault n k track trains routes)
 
 unfoldable pub tableRefusal : Table → Refusal
-tableRefusal t = partsRefusal (t .version) (t .n) (t .m) (t .k) (trackOf t) (t .boxes) (t .trains) (t .routes)
+tableRefusal t = partsRefusal (t .version) (t .n) (t .m) (t .k) (trackOf t) (wayOf t) (t .boxes) (t .trains) (t .routes)
 
 -- Refused as r is or, where r is none, by the first of these rows that applies; their codes are about no place of a route.
 unfoldable pub refusedThen : Refusal → List Row → Refusal

@@ -105,9 +105,9 @@ unfoldable pub printout : List ℕ → List ℕ → List ℕ
 printout file input = printoutUpTo mostSteps file input
 
 -- The most bytes of its file that the program reads: one more than the longest file that code 5 lets pass has, which is a head of
--- 8 bytes, 96 segments of 2, 96 boxes of 5, and 16 trains of 2 and a route of 255.
+-- 8 bytes, 96 segments of 3, 96 boxes of 5, and 16 trains of 2 and a route of 255.
 abbrev pub mostFile : ℕ
-mostFile = 4793
+mostFile = 4889
 
 -- The most bytes of its input: three for each step that is taken, and one, which makes `more`.
 abbrev pub mostInput : ℕ

@@ -13,7 +13,7 @@ use Rattle.rules.specs.declared.Train.{Train}
 use Rattle.rules.specs.declared.Line.{Line}
 use Rattle.rules.specs.declared.Outcome.{Outcome}
 use Rattle.rules.specs.Rows.{first, nth, anyOf}
-use Rattle.rules.specs.Track.{noBoxPlan, Track, trackOf, pointAt, positionFits}
+use Rattle.rules.specs.Track.{noBoxPlan, Track, trackOf, wayOf, pointAt, positionFits}
 use Rattle.rules.specs.Placing.{routeShapeFault, routeFault, tableCode}
 use Rattle.rules.specs.declared.Around.{Around}
 use Rattle.rules.specs.Line.{noBox, noTrain, aroundOn}
@@ -21,7 +21,7 @@ use Rattle.rules.specs.Steps.{Step, addressRows, mostCovered, step}
 
 -- The codes that a box can give in answer to a request, 0 among them.
 unfoldable pub answerCode : Request → ℕ → Bool
-answerCode (Reserve b) c = eqb c 0 || eqb c 22
+answerCode (Reserve b) c = eqb c 0 || eqb c 22 || eqb c 31
 answerCode (Lock b) c = eqb c 0 || eqb c 23 || eqb c 24 || eqb c 25
 answerCode (GiveBack b) c = eqb c 0
 answerCode (Unlock b) c = eqb c 0
@@ -37,11 +37,11 @@ messageFault v r (Sent q) = addressFault v r q
 messageFault v r (Answered q c) = addressFault v r q || not (answerCode q c)
 messageFault v r (Lost q) = addressFault v r q
 
--- Train i with record r, on n segments of a track, where `point` says which boxes are points and `routes` has the routes as they
--- stand: its route fails 10, 11 or 28; the train is outside its route, its tail included; it covers no segment or more than it may; or
--- its message is at fault.
-unfoldable pub trainFault : ℕ → Track → (ℕ → Bool) → List ℕ → ℕ → Train → Bool
-trainFault n track point routes i r =
+-- Train i with record r, on n segments of a track with these ways, where `point` says which boxes are points and `routes` has the routes
+-- as they stand: its route fails 10, 11 or 28; the train is outside its route, its tail included; it covers no segment or more than it
+-- may; or its message is at fault.
+unfoldable pub trainFault : ℕ → Track → (ℕ → ℕ) → (ℕ → Bool) → List ℕ → ℕ → Train → Bool
+trainFault n track way point routes i r =
     routeShapeFault (r .direction) (r .length)
     || not (eqb (routeFault n track routes i (r .direction) (r .length) .code) 0)
     || eqb (r .place) 0
@@ -49,7 +49,7 @@ trainFault n track point routes i r =
     || ltb (r .place) (r .covered)
     || eqb (r .covered) 0
     || ltb mostCovered (r .covered)
-    || messageFault (aroundOn track point routes i r) r (r .message)
+    || messageFault (aroundOn track way point routes i r) r (r .message)
 
 -- A box with plan p and record x on a line with k trains: a position that does not fit the box, or a holder above k, of the lock
 -- or at any of the three places, also at those that the box lacks.
@@ -62,8 +62,8 @@ switchBoxFault k p x =
     || ltb k (x .right)
 
 -- Some train of 1 to k is at fault, by the records of all trains; and some box of 1 to m, by the plans and records of all boxes.
-unfoldable pub trainsFault : ℕ → ℕ → Track → (ℕ → Bool) → List ℕ → List Train → Bool
-trainsFault n k track point routes trains = anyOf k (λ i. trainFault n track point routes i (nth trains i noTrain))
+unfoldable pub trainsFault : ℕ → ℕ → Track → (ℕ → ℕ) → (ℕ → Bool) → List ℕ → List Train → Bool
+trainsFault n k track way point routes trains = anyOf k (λ i. trainFault n track way point routes i (nth trains i noTrain))
 
 unfoldable pub switchBoxesFault : ℕ → ℕ → List BoxPlan → List SwitchBox → Bool
 switchBoxesFault k m plans boxes = anyOf m (λ b. switchBoxFault k (nth plans b noBoxPlan) (nth boxes b noBox))
@@ -73,7 +73,7 @@ unfoldable pub recordFault : Line → Bool
 recordFault l =
     let t = l .table in
     not (eqb (tableCode t) 0)
-    || trainsFault (t .n) (t .k) (trackOf t) (pointAt t) (l .routes) (l .trains)
+    || trainsFault (t .n) (t .k) (trackOf t) (wayOf t) (pointAt t) (l .routes) (l .trains)
     || switchBoxesFault (t .k) (t .m) (t .boxes) (l .boxes)
 
 -- A single step on any record: 27 first, then the step.

@@ -1,5 +1,4 @@
--- Cases on records made up by hand: for each condition of the record check, 27, and steps on records that no steps reach; and the
--- list of all cases.
+-- Cases on records made up by hand: for each condition of the record check, 27, and steps on records that no steps reach.
 use Prim.Native.Nat.{ℕ}
 use mathlib.Core.Bool.{Bool, true, false}
 use mathlib.Core.List.{List, [], _∷_, _++_}
@@ -15,11 +14,9 @@ use Rattle.rules.specs.Line.{startLine, emptyLine, noTrain, read, boxAt,
 use Rattle.rules.specs.Steps.{sensed}
 use Rattle.rules.specs.Record.{checkedStep}
 use Rattle.rules.specs.Safety.{reached}
-use Rattle.rules.specs.Cases.{Question, writtenTo, checked, checkedTrain, checkedBox, checkedLine, lineNumbers, Case, _gives_, stepOf, tableS, oneStart, ring, paperCases}
-use Rattle.rules.specs.FileCases.{linked, fileCases}
-use Rattle.rules.specs.StepCases.{crossing, stepCases}
-use Rattle.rules.specs.RadioCases.{radioCases}
-use Rattle.rules.specs.RunCases.{runCases, lentCases}
+use Rattle.rules.specs.Cases.{Question, writtenTo, checked, checkedTrain, checkedBox, checkedLine, lineNumbers, Case, _gives_, stepOf, tableS, oneStart, ring}
+use Rattle.rules.specs.FileCases.{linked}
+use Rattle.rules.specs.StepCases.{crossing}
 
 -- Records made up by hand: table S at its start with another train 1, another box, or other routes.
 abbrev pub startS : Line
@@ -83,8 +80,8 @@ recordCases =
     ∷ heardOn (startLine (decode (set tableS 9 1))) gives (27 ∷ [])
     ∷ tablePart (startLine (decode oneStart)) gives (12 ∷ 0 ∷ 0 ∷ [])
     ∷ heardOn (startLine (decode oneStart)) gives (27 ∷ [])
-    ∷ tablePart (startLine (decode (set tableS 4 2))) gives (3 ∷ 0 ∷ 0 ∷ [])
-    ∷ heardOn (startLine (decode (set tableS 4 2))) gives (27 ∷ [])
+    ∷ tablePart (startLine (decode (set tableS 4 3))) gives (3 ∷ 0 ∷ 0 ∷ [])
+    ∷ heardOn (startLine (decode (set tableS 4 3))) gives (27 ∷ [])
     ∷ tablePart (startLine (decode (set tableS 7 17))) gives (4 ∷ 0 ∷ 0 ∷ [])
     ∷ heardOn (startLine (decode (set tableS 7 17))) gives (27 ∷ [])
     -- The same where nothing else is at fault: 7, 8, 10, 11 and 28 beside table S's boxes and trains, and 9 with no train.
@@ -311,7 +308,3 @@ madeUpCases =
     ∷ checkedTrain (withTrain 0 3 1 1 (Answered (Reserve 3) 0)) (stepOf 4 1 0) 1
     gives (0 ∷ 0 ∷ 3 ∷ 1 ∷ 1 ∷ 0 ∷ 1 ∷ 0 ∷ 0 ∷ 0 ∷ 0 ∷ 0 ∷ [])
     ∷ []
-
--- All cases.
-unfoldable pub cases : List Case
-cases = paperCases ++ fileCases ++ stepCases ++ radioCases ++ runCases ++ lentCases ++ recordCases ++ madeUpCases

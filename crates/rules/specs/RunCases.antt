@@ -64,11 +64,11 @@ runCases =
     ∷ runLine merging [] [] gives (0 ∷ 0 ∷ 0 ∷ mergingNumbers)
     ∷ []
 
--- The longest file that code 5 lets pass: 96 segments, 96 boxes and 16 trains with 255 route bytes each, all of them 0.
+-- The longest file that code 5 lets pass, of version 2: 96 segments, 96 boxes and 16 trains with 255 route bytes each, all of them 0.
 unfoldable pub longestFile : List ℕ
 longestFile =
-    (0x4E ∷ 0x45 ∷ 0x54 ∷ 0 ∷ 1 ∷ 96 ∷ 96 ∷ 16 ∷ [])
-    ++ replicate 672 0
+    (0x4E ∷ 0x45 ∷ 0x54 ∷ 0 ∷ 2 ∷ 96 ∷ 96 ∷ 16 ∷ [])
+    ++ replicate 768 0
     ++ joinOf 16 (λ i. 0 ∷ 255 ∷ replicate 255 0)
 
 unfoldable pub lentCases : List Case

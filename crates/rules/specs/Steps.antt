@@ -124,9 +124,9 @@ clearRows r = 20 if leb (r .covered) 1 ∷ []
 unfoldable pub another : ℕ → ℕ → Bool
 another i holder = not (eqb holder 0) && not (eqb holder i)
 
--- Row Box, for what is asked for; of a lock as 02, ticket 3 orders it.
+-- Row Box, for what is asked for; of a reservation with 31 of 02, ticket 6, of a lock as 02, ticket 3 orders it.
 unfoldable pub grantRows : Around → BoxPlan → SwitchBox → Holding → List Row
-grantRows v p x (NextAt b) = 22 if another (v .number) (holderOf p x (v .next)) ∷ []
+grantRows v p x (NextAt b) = 31 if v .against ∷ 22 if another (v .number) (holderOf p x (v .next)) ∷ []
 grantRows v p x (LockAt b) =
     24 if another (v .number) (x .lock)
     ∷ 23 if x .sensor

@@ -13,7 +13,7 @@ use Rattle.rules.specs.Rows.{nth}
 
 -- What is read where a table has no such record.
 abbrev pub noSegment : Segment
-noSegment = record { a = 0; b = 0 }
+noSegment = record { a = 0; b = 0; way = 0 }
 
 abbrev pub noBoxPlan : BoxPlan
 noBoxPlan = record { kind = 0; stem = 0; left = 0; right = 0; position = 0 }
@@ -71,6 +71,21 @@ nearBox track d s = farOf d (track .endB s) (track .endA s)
 -- Segment x follows segment s in direction d: the far end of s and the near end of x are at one box.
 unfoldable pub follows : Track → ℕ → ℕ → ℕ → Bool
 follows track d s x = eqb (farBox track d s) (nearBox track d x)
+
+-- The way of each segment, by its number: 0 both ways, 1 from A to B only, 2 from B to A only; of a list of segments, of a table, and of a
+-- list that has at index s the way of segment s.
+unfoldable pub wayBy : List Segment → ℕ → ℕ
+wayBy l s = nth l s noSegment .way
+
+abbrev pub wayOf : Table → ℕ → ℕ
+wayOf t = wayBy (t .segments)
+
+abbrev pub wayIn : List ℕ → ℕ → ℕ
+wayIn l s = getD l s 0
+
+-- A train of direction d runs against a segment of this way: from A to B (direction 0) where it runs from B to A only, and the reverse.
+unfoldable pub runsAgainst : ℕ → ℕ → Bool
+runsAgainst d way = cond (eqb d 0) (eqb way 2) (eqb way 1)
 
 -- The kind of a point, and a box that is one.
 abbrev pub pointKind : ℕ → Bool

@@ -2,10 +2,12 @@
 // What they mean and every rule over them is in specs/, which begins with specs/Lib.antt. There is no code here.
 // Segments, boxes and trains are numbered from 1; record i of an array is the one numbered i + 1.
 
-// A segment: the box at its A end and the box at its B end.
+// A segment: the box at its A end, the box at its B end, and the way in which trains pass it: 0 both ways, 1 from A to B only, 2 from
+// B to A only.
 pub struct Segment {
     pub a: u8,
     pub b: u8,
+    pub way: u8,
 }
 
 // A switch box in the table: its kind (0 border, 1 link, 2 point), the segments at its three places, and its position
@@ -101,14 +103,16 @@ pub struct Line {
 }
 
 // What stands around a train: its number; the segments at its front, next after it, at its tail and next after the tail (the
-// front again where two are covered); the box ahead of the front and whether it is a point; the boxes at the near and the far
-// end of next; and the box between the tail and the segment after it, which is passed when the tail is cleared.
+// front again where two are covered); whether the train runs against the way of next; the box ahead of the front and whether it is a
+// point; the boxes at the near and the far end of next; and the box between the tail and the segment after it, which is passed when the
+// tail is cleared.
 pub struct Around {
     pub number: u8,
     pub front: u8,
     pub next: u8,
     pub tail: u8,
     pub second: u8,
+    pub against: bool,
     pub ahead: u8,
     pub point: bool,
     pub nearEnd: u8,

@@ -7,22 +7,22 @@ use Rattle.rules.specs.declared.BoxPlan.{BoxPlan}
 use Rattle.rules.specs.declared.TrainPlan.{TrainPlan}
 use Rattle.rules.specs.declared.Table.{Table}
 use Rattle.rules.specs.declared.Refusal.{Refusal}
-use Rattle.rules.specs.Rows.{first, outside}
-use Rattle.rules.specs.Track.{Track, trackOf}
-use Rattle.rules.specs.Network.{headRows, limitsFault, knownVersion, networkRows}
+use Rattle.rules.specs.Rows.{Row, first, outside}
+use Rattle.rules.specs.Track.{Track, trackOf, wayOf}
+use Rattle.rules.specs.Network.{waysFault, headRows, limitsFault, knownVersion, networkRows}
 use Rattle.rules.specs.Placing.{withoutPlace, routesFault, placingRows, partsCode, tellsPlace, refusalBy, partsRefusal, tableRefusal}
-use Rattle.rules.proofs.Tests.{tests, EachCode, first-before, first-skip, first-zero-iff}
+use Rattle.rules.proofs.Tests.{tests, EachCode, first-before, first-hit, first-skip, first-zero-iff}
 use Rattle.rules.proofs.Refusals.{placeless, refused-nowhere, refused-alike}
 
 module _ (version n m k : ℕ) where
   -- Codes 3 and 4, each by the tests before it, and none.
-  pub head-3 : (version ≡ 1 → ⊥) → 3 ≡ first (headRows version n m k)
-  unfolding headRows knownVersion
+  pub head-3 : knownVersion version ≡ false → 3 ≡ first (headRows version n m k)
+  unfolding headRows
   head-3 h = search tests
 
-  module _ (known : version ≡ 1) where
+  module _ (known : knownVersion version ≡ true) where
     limits-4 : limitsFault n m k ≡ true → 4 ≡ first (headRows version n m k)
-    unfolding headRows knownVersion
+    unfolding headRows
     limits-4 h = search tests
 
     pub segments-4 : outside 96 n ≡ true → 4 ≡ first (headRows version n m k)
@@ -42,57 +42,75 @@ module _ (version n m k : ℕ) where
     trains-4 h = limits-4 (search tests)
 
     pub head-0 : outside 96 n ≡ false → 2 ≤ m → m ≤ 96 → k ≤ 16 → 0 ≡ first (headRows version n m k)
-    unfolding headRows knownVersion limitsFault first
+    unfolding headRows limitsFault first
     head-0 segments low high trains = search tests
 
-  module _ (track : Track) (plans : List BoxPlan) (trains : List TrainPlan) (routes : List ℕ) where
-    head-clear : first (headRows version n m k) ≡ 0 → partsCode version n m k track plans trains routes ≡ first (networkRows n m track plans ++ placingRows n k track trains routes)
-    unfolding partsCode headRows
-    head-clear e =
-        let (version, (limits, _)) = simp first-zero-iff at e in
-        sym (first-skip _ _ _ version (first-skip _ _ _ limits refl))
+  module _ (track : Track) (way : ℕ → ℕ) (plans : List BoxPlan) (trains : List TrainPlan) (routes : List ℕ) where
+    abbrev networkHere : List Row
+    networkHere = networkRows n m track way plans
 
-    network-clear : first (networkRows n m track plans) ≡ 0 → first (networkRows n m track plans ++ placingRows n k track trains routes) ≡ first (placingRows n k track trains routes)
-    unfolding networkRows
-    network-clear e =
-        let (ends, (kinds, (listing, (loop, _)))) = simp first-zero-iff at e in
-        sym (first-skip _ _ _ ends (first-skip _ _ _ kinds (first-skip _ _ _ listing (first-skip _ _ _ loop refl))))
+    abbrev placingHere : List Row
+    placingHere = placingRows n k track way trains routes
 
-    head-counts : (h : ℕ) → h ≡ first (headRows version n m k) → (h ≡ 0 → ⊥) → h ≡ partsCode version n m k track plans trains routes
-    unfolding partsCode
-    head-counts h e z = e ∙ first-before _ _ (λ y. z (e ∙ y))
+    abbrev codeHere : ℕ
+    codeHere = partsCode version n m k track way plans trains routes
 
-    network-counts : (h c : ℕ) → h ≡ first (headRows version n m k) → h ≡ 0 → c ≡ first (networkRows n m track plans) → (c ≡ 0 → ⊥) → c ≡ partsCode version n m k track plans trains routes
-    network-counts h c e z f y = f ∙ first-before _ _ (λ x. y (f ∙ x)) ∙ sym (head-clear (sym e ∙ z))
+    abbrev refusalHere : Refusal
+    refusalHere = partsRefusal version n m k track way plans trains routes
+
+    -- A way that the version cannot hold.
+    pub held-refuses : (x : Refusal) → waysFault version n way ≡ true → x ≡ withoutPlace 3 → x ≡ refusalHere
+    unfolding partsRefusal partsCode tellsPlace
+    held-refuses x fault is = refused-nowhere _ _ x 3 is refl (first-hit _ _ _ fault refl)
 
     -- The codes of head and network are about no place of a route.
     head-placeless : tellsPlace (first (headRows version n m k)) ≡ false
     unfolding EachCode headRows tellsPlace
     head-placeless = placeless (headRows version n m k) (refl, (refl, refl))
 
-    network-placeless : tellsPlace (first (networkRows n m track plans)) ≡ false
+    network-placeless : tellsPlace (first networkHere) ≡ false
     unfolding EachCode networkRows tellsPlace
-    network-placeless = placeless (networkRows n m track plans) (refl, (refl, (refl, (refl, refl))))
+    network-placeless = placeless networkHere (refl, (refl, (refl, (refl, refl))))
 
-    -- What refuses the head, the network or the trains refuses the table, where the codes before it are 0; x is what a function
-    -- answered.
-    module _ (x : Refusal) (h : ℕ) (e : h ≡ first (headRows version n m k)) where
-      pub head-refuses : (h ≡ 0 → ⊥) → x ≡ withoutPlace h → x ≡ partsRefusal version n m k track plans trains routes
-      unfolding partsRefusal
-      head-refuses z is = refused-nowhere _ _ x h is (rw e head-placeless) (head-counts h e z)
+    network-clear : first networkHere ≡ 0 → first (networkHere ++ placingHere) ≡ first placingHere
+    unfolding networkRows
+    network-clear e =
+        let (ends, (kinds, (listing, (loop, _)))) = simp first-zero-iff at e in
+        sym (first-skip _ _ _ ends (first-skip _ _ _ kinds (first-skip _ _ _ listing (first-skip _ _ _ loop refl))))
 
-      module _ (z : h ≡ 0) (c : ℕ) (f : c ≡ first (networkRows n m track plans)) where
-        pub network-refuses : (c ≡ 0 → ⊥) → x ≡ withoutPlace c → x ≡ partsRefusal version n m k track plans trains routes
+    module _ (held : waysFault version n way ≡ false) where
+      head-clear : first (headRows version n m k) ≡ 0 → codeHere ≡ first (networkHere ++ placingHere)
+      unfolding partsCode headRows
+      head-clear e =
+          let (version, (limits, _)) = simp first-zero-iff at e in
+          sym (first-skip _ _ _ held (first-skip _ _ _ version (first-skip _ _ _ limits refl)))
+
+      head-counts : (h : ℕ) → h ≡ first (headRows version n m k) → (h ≡ 0 → ⊥) → h ≡ codeHere
+      unfolding partsCode
+      head-counts h e z = first-skip _ _ _ held (e ∙ first-before _ _ (λ y. z (e ∙ y)))
+
+      network-counts : (h c : ℕ) → h ≡ first (headRows version n m k) → h ≡ 0 → c ≡ first networkHere → (c ≡ 0 → ⊥) → c ≡ codeHere
+      network-counts h c e z f y = f ∙ first-before _ _ (λ x. y (f ∙ x)) ∙ sym (head-clear (sym e ∙ z))
+
+      -- What refuses the head, the network or the trains refuses the table, where the codes before it are 0; x is what a function
+      -- answered.
+      module _ (x : Refusal) (h : ℕ) (e : h ≡ first (headRows version n m k)) where
+        pub head-refuses : (h ≡ 0 → ⊥) → x ≡ withoutPlace h → x ≡ refusalHere
         unfolding partsRefusal
-        network-refuses y is = refused-nowhere _ _ x c is (rw f network-placeless) (network-counts h c e z f y)
+        head-refuses z is = refused-nowhere _ _ x h is (rw e head-placeless) (head-counts h e z)
 
-        pub placing-refuses : c ≡ 0 → x ≡ refusalBy (first (placingRows n k track trains routes)) (routesFault n k track trains routes) → x ≡ partsRefusal version n m k track plans trains routes
-        unfolding partsRefusal
-        placing-refuses y is =
-            refused-alike _ _ x _ is (sym (network-clear (sym f ∙ y)) ∙ sym (head-clear (sym e ∙ z)))
+        module _ (z : h ≡ 0) (c : ℕ) (f : c ≡ first networkHere) where
+          pub network-refuses : (c ≡ 0 → ⊥) → x ≡ withoutPlace c → x ≡ refusalHere
+          unfolding partsRefusal
+          network-refuses y is = refused-nowhere _ _ x c is (rw f network-placeless) (network-counts h c e z f y)
+
+          pub placing-refuses : c ≡ 0 → x ≡ refusalBy (first placingHere) (routesFault n k track trains routes) → x ≡ refusalHere
+          unfolding partsRefusal
+          placing-refuses y is =
+              refused-alike _ _ x _ is (sym (network-clear (sym f ∙ y)) ∙ sym (head-clear (sym e ∙ z)))
 
 -- What a function answered for the parts of a table, r, is why the table is refused.
-pub parts-answer : (t : Table) (r : Refusal) {track : Track} → track ≡ trackOf t
-    → r ≡ partsRefusal (t .version) (t .n) (t .m) (t .k) track (t .boxes) (t .trains) (t .routes) → r ≡ tableRefusal t
+pub parts-answer : (t : Table) (r : Refusal) {track : Track} {way : ℕ → ℕ} → track ≡ trackOf t → way ≡ wayOf t
+    → r ≡ partsRefusal (t .version) (t .n) (t .m) (t .k) track way (t .boxes) (t .trains) (t .routes) → r ≡ tableRefusal t
 unfolding tableRefusal
-parts-answer t r made e = rw made at e
+parts-answer t r made passed e = rw (made, passed) at e

@@ -7,19 +7,25 @@ use Rattle.rules.specs.declared.BoxPlan.{BoxPlan}
 use Rattle.rules.specs.Rows.{_if_, first, anyOf}
 use Rattle.rules.specs.Track.{Track}
 use Rattle.rules.specs.Loop.{hasLoop}
-use Rattle.rules.specs.Network.{endsFault, planFaultAt, boxFaultAt, unlistedFault, networkRows}
-use Rattle.rules.proofs.Tests.{first-none, first-hit, first-skip, or-left, or-right, or-false}
+use Rattle.rules.specs.Network.{endsFault, segmentFault, planFaultAt, boxFaultAt, unlistedFault, networkRows}
+use Rattle.rules.proofs.Tests.{first-none, first-hit, first-skip, or-left, or-right, or-false, or-false-left}
+use Rattle.rules.proofs.Rows.{any-false-iff}
+
+-- Where 6 finds nothing, it finds nothing at the ends.
+pub ends-found : (n m : ℕ) (track : Track) (way : ℕ → ℕ) → anyOf n (segmentFault m track way) ≡ false → anyOf n (endsFault m track) ≡ false
+unfolding segmentFault
+ends-found n m track way e = any-false-iff n _ .1 (λ s l h. or-false-left _ _ (any-false-iff n _ .0 e s l h))
 
 -- Codes 6 to 9, each by the tests before it, and none.
-module _ (n m : ℕ) (track : Track) (plans : List BoxPlan) where
+module _ (n m : ℕ) (track : Track) (way : ℕ → ℕ) (plans : List BoxPlan) where
   abbrev Code : ℕ → Type 0
-  Code c = c ≡ first (networkRows n m track plans)
+  Code c = c ≡ first (networkRows n m track way plans)
 
-  pub network-6 : anyOf n (endsFault m track) ≡ true → Code 6
+  pub network-6 : anyOf n (segmentFault m track way) ≡ true → Code 6
   unfolding networkRows
   network-6 e = first-hit _ _ _ e refl
 
-  module _ (ends : anyOf n (endsFault m track) ≡ false) where
+  module _ (ends : anyOf n (segmentFault m track way) ≡ false) where
     pub network-7 : anyOf m (planFaultAt n plans) ≡ true → Code 7
     unfolding networkRows
     network-7 e = first-skip _ _ _ ends (first-hit _ _ _ e refl)

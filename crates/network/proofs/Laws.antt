@@ -1,6 +1,6 @@
 -- What the conditions on a network say of the record at an index, in the words of the functions that test them.
 use Prim.Native.Nat.{ℕ, _+_, _≤_, _<_}
-use mathlib.Core.Path.{_≡_, sym, _∙_, ap}
+use mathlib.Core.Path.{_≡_, refl, sym, _∙_, ap}
 use mathlib.Core.Bool.{Bool, true, false, cond, not, _&&_, _||_, false≢true, or-false as or-none}
 use mathlib.Core.List.{List}
 use native.Mathlib.Numerals.{add-one}
@@ -14,7 +14,7 @@ use Rattle.rules.specs.declared.BoxPlan.{BoxPlan}
 use Rattle.rules.specs.Rows.{anyOf, outside, nth}
 use Rattle.rules.proofs.Tests.{tests, answered, cond-same}
 use Rattle.rules.proofs.Rows.{none-found, nth-at, nth-past}
-use Rattle.rules.specs.Track.{noSegment, noBoxPlan, trackBy, farBox, isPoint, positionFits}
+use Rattle.rules.specs.Track.{noSegment, noBoxPlan, trackBy, wayBy, farBox, isPoint, positionFits}
 use Rattle.rules.specs.Network.{placeFault, branchesFault, planFault, planFaultAt}
 
 -- The box at index i is that of number i + 1; r is what a function answered for it, and v what a branch found.
@@ -78,6 +78,20 @@ module _ (n m : ℕ) (plans : List BoxPlan) (sized : length plans ≡ 96) where
         | yes l ↦ absurd (false≢true (sym (many-boxes l ∙ e)))
         | no l ↦ omega arith
       ]
+
+-- The way of a segment that is none: 0; and of the segment at index i.
+module _ (l : List Segment) where
+  pub way-none : wayBy l 0 ≡ 0
+  unfolding wayBy nth
+  way-none = refl
+
+  pub way-past : length l ≡ 96 → (x : ℕ) → 96 < x → wayBy l x ≡ 0
+  unfolding wayBy
+  way-past e x h = ap (λ (s : Segment). s .way) (nth-past l x noSegment (omega arith))
+
+  pub way-at : (i : ℕ) → getD l i noSegment .way ≡ wayBy l (i + 1)
+  unfolding wayBy nth
+  way-at i = rw add-one
 
 -- The far box of a segment that is none: 0; and of the segment at index i.
 module _ (l : List Segment) (d : ℕ) where

@@ -1,13 +1,13 @@
-// The network of a table: codes 6 to 9, by the boxes at the A ends and at the B ends of its segments. Here are 6 and 7, the ends of
-// segments and the plans of boxes; `listing` has 8, the segments that boxes list, and the crate `loops` has 9.
+// The network of a table: codes 6 to 9, by the boxes at the A ends and at the B ends of its segments, and by their ways. Here are 6 and 7,
+// the segments and the plans of boxes; `listing` has 8, the segments that boxes list, and the crate `loops` has 9.
 mod listing;
 
 use rules::BoxPlan;
 use rules::Segment;
 ghost use mathlib.Core.Path.{_≡_};
 ghost use Rattle.rules.specs.Rows.{first, anyOf, outside};
-ghost use Rattle.rules.specs.Track.{trackBy, trackIn, farBox, positionFits};
-ghost use Rattle.rules.specs.Network.{endsFault, planFault, planFaultAt, networkRows};
+ghost use Rattle.rules.specs.Track.{trackBy, trackIn, wayBy, wayIn, runsAgainst, farBox, positionFits};
+ghost use Rattle.rules.specs.Network.{endsFault, segmentFault, planFault, planFaultAt, networkRows};
 ghost use Rattle.network.specs.Column.{column};
 
 // x is 0 or above n.
@@ -34,7 +34,31 @@ pub fn far_boxes(segments: [Segment; 96], d: u8) -> [u8; 256]
     boxes
 }
 
-// Code 6 at segment s.
+// The way of each segment, by the segment's number.
+pub fn ways(segments: [Segment; 96]) -> [u8; 256]
+    ensures { λ r. ⌜ r ≡ column (wayBy segments) ⌝ }
+{
+    let mut all = [0u8; 256];
+    let mut i: usize = 0;
+    while i < 96 {
+        let s = segments[i];
+        i += 1;
+        all[i] = s.way;
+    }
+    all
+}
+
+// A train of direction d runs against a segment of this way.
+pub fn runs_against(d: u8, way: u8) -> bool
+    ensures { λ r. ⌜ r ≡ runsAgainst d way ⌝ }
+{
+    if d == 0 {
+        return way == 2;
+    }
+    way == 1
+}
+
+// Code 6 at the ends of segment s.
 fn ends_faulty(m: u8, s: u8, a: &[u8; 256], b: &[u8; 256]) -> bool
     ensures { λ r. ⌜ r ≡ endsFault m (trackIn (now (a .entry)) (now (b .entry))) s ⌝ }
 {
@@ -49,14 +73,24 @@ fn ends_faulty(m: u8, s: u8, a: &[u8; 256], b: &[u8; 256]) -> bool
     x == y
 }
 
-// Code 6: some segment has an end at no box, or both ends at one box.
-fn some_ends_faulty(n: u8, m: u8, a: &[u8; 256], b: &[u8; 256]) -> bool
-    ensures { λ r. ⌜ r ≡ anyOf n (endsFault m (trackIn (now (a .entry)) (now (b .entry)))) ⌝ }
+// Code 6 at segment s: its ends, or a way above 2.
+fn segment_faulty(m: u8, s: u8, a: &[u8; 256], b: &[u8; 256], ways: &[u8; 256]) -> bool
+    ensures { λ r. ⌜ r ≡ segmentFault m (trackIn (now (a .entry)) (now (b .entry))) (wayIn (now (ways .entry))) s ⌝ }
+{
+    if ends_faulty(m, s, a, b) {
+        return true;
+    }
+    ways[s as usize] > 2
+}
+
+// Code 6: some segment has an end at no box, both ends at one box, or a way that there is not.
+fn some_segment_faulty(n: u8, m: u8, a: &[u8; 256], b: &[u8; 256], ways: &[u8; 256]) -> bool
+    ensures { λ r. ⌜ r ≡ anyOf n (segmentFault m (trackIn (now (a .entry)) (now (b .entry))) (wayIn (now (ways .entry)))) ⌝ }
 {
     let mut s: u8 = 0;
     while s < n {
         s += 1;
-        if ends_faulty(m, s, a, b) {
+        if segment_faulty(m, s, a, b, ways) {
             return true;
         }
     }
@@ -164,10 +198,17 @@ fn some_plan_faulty(n: u8, m: u8, plans: [BoxPlan; 96]) -> bool
 }
 
 // Codes 6 to 9 of n segments and m boxes.
-pub fn network_code(n: u8, m: u8, plans: [BoxPlan; 96], a: &[u8; 256], b: &[u8; 256]) -> u8
-    ensures { λ r. ⌜ r ≡ first (networkRows n m (trackIn (now (a .entry)) (now (b .entry))) plans) ⌝ }
+pub fn network_code(
+    n: u8,
+    m: u8,
+    plans: [BoxPlan; 96],
+    a: &[u8; 256],
+    b: &[u8; 256],
+    ways: &[u8; 256],
+) -> u8
+    ensures { λ r. ⌜ r ≡ first (networkRows n m (trackIn (now (a .entry)) (now (b .entry))) (wayIn (now (ways .entry))) plans) ⌝ }
 {
-    if some_ends_faulty(n, m, a, b) {
+    if some_segment_faulty(n, m, a, b, ways) {
         return 6;
     }
     if some_plan_faulty(n, m, plans) {

@@ -1,12 +1,12 @@
-// The trains of a table: code 10, the shape of routes; 11 and 28, their segments; and 12, the first segments of trains.
+// The trains of a table: code 10, the shape of routes; 11 and 28, their segments; 12, the first segments of trains; and 32, their ways.
 use rules::Refusal;
 use rules::TrainPlan;
 ghost use mathlib.Core.Path.{_≡_};
 ghost use Prim.Native.Nat.{_+_, _≤_, min};
 ghost use lib.ListN.{length};
 ghost use Rattle.rules.specs.Rows.{first, anyOf};
-ghost use Rattle.rules.specs.Track.{routeAt, trackIn, follows};
-ghost use Rattle.rules.specs.Placing.{withoutPlace, routeShapeFault, placeRows, routeFault, startFault, shapeFaultAt, routesFault, placingRows, refusalBy};
+ghost use Rattle.rules.specs.Track.{routeAt, trackIn, wayIn, follows};
+ghost use Rattle.rules.specs.Placing.{withoutPlace, routeShapeFault, placeRows, routeFault, startFault, againstFaultAt, shapeFaultAt, routesFault, placingRows, refusalBy};
 
 // A refusal by a code that is about no place of a route; with code 0 it is none.
 pub fn without_place(code: u8) -> Refusal
@@ -206,8 +206,27 @@ fn some_start_shared(k: u8, routes: &[u8; 1024]) -> bool
     false
 }
 
-// Codes 10 to 12 and 28 of k trains on n segments, by the boxes at the A ends and at the B ends of segments: why a table with these
-// trains is refused.
+// Code 32: some train starts against the way of its first segment.
+fn some_start_against(k: u8, trains: [TrainPlan; 16], routes: &[u8; 1024], ways: &[u8; 256]) -> bool
+    requires { ⌜ k ≤ 16 ⌝ }
+    ensures { λ r. ⌜ r ≡ anyOf k (againstFaultAt (wayIn (now (ways .entry))) trains (now (routes .entry))) ⌝ }
+{
+    let mut number: u8 = 0;
+    // Train number + 1 is looked at, up to the last.
+    while number + 1 <= k {
+        let i = number as usize;
+        number += 1;
+        let p = trains[i];
+        let first = segment_at(routes, number, 1) as usize;
+        if network::runs_against(p.direction, ways[first]) {
+            return true;
+        }
+    }
+    false
+}
+
+// Codes 10 to 12, 28 and 32 of k trains on n segments, by the boxes at the A ends and at the B ends of segments and by their ways: why a
+// table with these trains is refused.
 pub fn placing_refusal(
     n: u8,
     k: u8,
@@ -215,8 +234,9 @@ pub fn placing_refusal(
     routes: &[u8; 1024],
     a: &[u8; 256],
     b: &[u8; 256],
+    ways: &[u8; 256],
 ) -> Refusal
-    ensures { λ r. ⌜ r ≡ refusalBy (first (placingRows n k (trackIn (now (a .entry)) (now (b .entry))) trains (now (routes .entry)))) (routesFault n k (trackIn (now (a .entry)) (now (b .entry))) trains (now (routes .entry))) ⌝ }
+    ensures { λ r. ⌜ r ≡ refusalBy (first (placingRows n k (trackIn (now (a .entry)) (now (b .entry))) (wayIn (now (ways .entry))) trains (now (routes .entry)))) (routesFault n k (trackIn (now (a .entry)) (now (b .entry))) trains (now (routes .entry))) ⌝ }
 {
     if some_shape_faulty(k, trains) {
         return without_place(10);
@@ -227,6 +247,9 @@ pub fn placing_refusal(
     }
     if some_start_shared(k, routes) {
         return without_place(12);
+    }
+    if some_start_against(k, trains, routes, ways) {
+        return without_place(32);
     }
     without_place(0)
 }

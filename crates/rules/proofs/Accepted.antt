@@ -13,7 +13,7 @@ use Rattle.rules.specs.declared.Refusal.{Refusal}
 use Rattle.rules.specs.Rows.{anyOf, nth, outside}
 use Rattle.rules.specs.Track.{noBoxPlan, planAt, trainPlanAt, routeAt, Track, trackOf, wayBy, wayOf, runsAgainst, nearBox, farBox, follows, isPoint, positionFits}
 use Rattle.rules.specs.Loop.{SegmentOf, Loop}
-use Rattle.rules.specs.Network.{knownVersion, hasWays, waysFault, limitsFault, endsFault, segmentFault, placeFault, branchesFault, planFault, lists, hasEndA, hasEndB, listedFault, sideFault, boxFault, planFaultAt, boxFaultAt, unlistedFault, headRows, networkRows}
+use Rattle.rules.specs.Network.{knownVersion, hasWays, someOneWay, waysFault, limitsFault, endsFault, segmentFault, placeFault, branchesFault, planFault, lists, hasEndA, hasEndB, listedFault, sideFault, boxFault, planFaultAt, boxFaultAt, unlistedFault, headRows, networkRows}
 use Rattle.rules.specs.Placing.{firstOf, routeShapeFault, placeRows, routePlaceFault, routeFault, startFault, againstFaultAt, shapeFaultAt, routeFaultAt, routesFault, placingRows, partsCode, tableCode}
 use Rattle.rules.specs.Safety.{TrainOf, onRoute}
 use Rattle.rules.proofs.Tests.{facts, or-true-iff, eqb-true-iff, leb-true-iff, outside-false-iff, first-none, first-zero-iff, first-code-iff}
@@ -184,7 +184,7 @@ segment-fault-iff m track way s = simp (facts, ends-iff) (λ (ends, low). (ends,
 -- Code 3 of a record: what its version cannot hold.
 held-iff : (t : Table) → (waysFault (t .version) (t .n) (wayOf t) ≡ false)
     ↔ (hasWays (t .version) ≡ false → (s : ℕ) → SegmentOf (t .n) s → wayOf t s ≡ 0)
-unfolding waysFault
+unfolding waysFault someOneWay
 held-iff t = simp (facts, any-segment-iff) Iff·rfl
 
 -- Code 7: a place of a box.

@@ -15,7 +15,7 @@ use Rattle.rules.specs.declared.Refusal.{Refusal}
 use Rattle.rules.specs.Rows.{anyOf, nth, listOf, joinOf, filled}
 use Rattle.rules.specs.Track.{noSegment, noBoxPlan, noTrainPlan, segmentAt, planAt, trainPlanAt, routeAt, trackOf, trackBy, wayOf, wayBy, farBox, nearBox, follows}
 use Rattle.rules.specs.Loop.{hasLoop}
-use Rattle.rules.specs.Network.{waysFault, endsFault, segmentFault, planFault, hasEndA, hasEndB, listedFault, sideFault, boxFault, planFaultAt, boxFaultAt, unlistedFault, headRows, networkRows}
+use Rattle.rules.specs.Network.{someOneWay, waysFault, endsFault, segmentFault, planFault, hasEndA, hasEndB, listedFault, sideFault, boxFault, planFaultAt, boxFaultAt, unlistedFault, headRows, networkRows}
 use Rattle.rules.specs.Placing.{firstOf, routeShapeFault, placeRows, routePlaceFault, routeFault, startFault, againstFaultAt, shapeFaultAt, routeFaultAt, routesFault, placingRows, partsCode, tableCode}
 use Rattle.rules.specs.File.{usedPart}
 use Rattle.rules.proofs.Rows.{any-same, filled-length, filled-same, join-at, list-at, filled-nth}
@@ -73,7 +73,7 @@ module _ (t u : Table) (same : SameUse t u) (ok : Accepted t) where
 
   -- Code 3 of a record.
   held-same : waysFault (u .version) (u .n) (wayOf u) ≡ waysFault (t .version) (t .n) (wayOf t)
-  unfolding waysFault
+  unfolding waysFault someOneWay
   held-same = rw (same .version, test-same {f = λ s. not (eqb (wayOf u s) 0)} {g = λ s. not (eqb (wayOf t s) 0)} (same .n) (λ s l h. rw (way-same s h)))
 
   follows-same : (d s x : ℕ) → s ≤ t .n → x ≤ t .n → follows (trackOf u) d s x ≡ follows (trackOf t) d s x

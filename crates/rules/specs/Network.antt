@@ -17,9 +17,13 @@ knownVersion v = eqb v 1 || eqb v 2
 unfoldable pub hasWays : ℕ → Bool
 hasWays v = leb 2 v
 
--- Code 3 of a table record: n segments have a way that the version cannot hold.
+-- Some of n segments runs one way only.
+unfoldable pub someOneWay : ℕ → (ℕ → ℕ) → Bool
+someOneWay n way = anyOf n (λ s. not (eqb (way s) 0))
+
+-- Code 3 of a table record: some of n segments has a way that the version cannot hold.
 unfoldable pub waysFault : ℕ → ℕ → (ℕ → ℕ) → Bool
-waysFault v n way = not (hasWays v) && anyOf n (λ s. not (eqb (way s) 0))
+waysFault v n way = not (hasWays v) && someOneWay n way
 
 -- Code 4: n, m or k outside its limits.
 unfoldable pub limitsFault : ℕ → ℕ → ℕ → Bool

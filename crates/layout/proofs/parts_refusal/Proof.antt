@@ -1,6 +1,7 @@
 -- The codes in their order, by the tests that led to each return.
 use borrow.Author.Needs.{needs}
-use Rattle.layout.proofs.Codes.{head-refuses, network-refuses, placing-refuses}
+use Rattle.rules.proofs.Tests.{answered}
+use Rattle.layout.proofs.Codes.{held-refuses, head-refuses, network-refuses, placing-refuses}
 use Rattle.layout.proofs.parts_refusal.Statement.{statement}
 use Rattle.layout.proofs.parts_refusal.Tie as tie
 
@@ -10,9 +11,12 @@ parts-refusal-spec =
     (tie.spec
     (λ c κs. search needs)
     (λ c κs. search needs)
-    (λ c. search head-refuses)
+    (λ c. search (held-refuses, answered))
     (λ c κs. search needs)
     (λ c κs. search needs)
-    (λ c. search network-refuses)
+    (λ c. search (head-refuses, answered))
     (λ c κs. search needs)
-    (λ c. search placing-refuses))
+    (λ c κs. search needs)
+    (λ c. search (network-refuses, answered))
+    (λ c κs. search needs)
+    (λ c. search (placing-refuses, answered)))

@@ -3,7 +3,7 @@ use mathlib.Core.Path.{_≡_}
 use borrow.Author.Needs.{needs}
 use lib.ListN.{length}
 use Rattle.rules.proofs.Rows.{length-mapped}
-use Rattle.network.proofs.Tracks.{track-made}
+use Rattle.network.proofs.Tracks.{track-made, ways-made}
 use Rattle.layout.proofs.Codes.{parts-answer}
 use Rattle.layout.proofs.table_refusal.Statement.{statement}
 use Rattle.layout.proofs.table_refusal.Tie as tie
@@ -13,10 +13,12 @@ sized c = search (needs, length-mapped, c .good .0 .1 .1 .0)
 
 returns : tie.Need-returns
 returns c =
-    let b = c .before .before .before .before .before in
-    let made = track-made _ (sized (b .before .before .before .before .before)) (b .before .far-boxes .ensures) (b .far-boxes2 .ensures) in
-    parts-answer _ _ made (c .parts-refusal .ensures)
+    let w = c .before .before .before .before .before .before in
+    let b = w .before in
+    let size = sized (b .before .before .before .before .before) in
+    let made = track-made _ size (b .before .far-boxes .ensures) (b .far-boxes2 .ensures) in
+    parts-answer _ _ made (ways-made _ size (w .ways .ensures)) (c .parts-refusal .ensures)
 
 pub table-refusal-spec : {M : Type 1} → statement M
 table-refusal-spec =
-    tie.close (tie.spec (λ c κs. search needs) (λ c κs. search needs) (λ c κs. search needs) returns)
+    tie.close (tie.spec (λ c κs. search needs) (λ c κs. search needs) (λ c κs. search needs) (λ c κs. search needs) returns)

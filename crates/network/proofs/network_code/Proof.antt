@@ -4,20 +4,21 @@ use mathlib.Core.Path.{_≡_, _∙_}
 use mathlib.Core.Bool.{false}
 use borrow.Author.Needs.{needs}
 use Rattle.rules.specs.Rows.{anyOf}
-use Rattle.rules.specs.Track.{trackIn}
-use Rattle.rules.specs.Network.{endsFault, planFaultAt, boxFaultAt, unlistedFault}
+use Rattle.rules.specs.Track.{trackIn, wayIn}
+use Rattle.rules.specs.Network.{segmentFault, planFaultAt, boxFaultAt, unlistedFault}
 use Rattle.rules.proofs.Tests.{answered}
 use Rattle.rules.proofs.Rows.{length-mapped}
 use Rattle.network.proofs.Laws.{few-boxes}
 use Rattle.network.proofs.Sides.{boxes-by-sides}
 use Rattle.network.proofs.Listed.{unlisted-by-places}
-use Rattle.network.proofs.Codes.{network-6, network-7, boxes-8, segments-8, network-9, network-0}
+use Rattle.network.proofs.Codes.{ends-found, network-6, network-7, boxes-8, segments-8, network-9, network-0}
 use Rattle.network.proofs.network_code.Statement.{statement}
 use Rattle.network.proofs.network_code.Tie as tie
 
--- What was found to be without fault past each test: the ends, the plans, below them the boxes and the listing of segments.
-ends-fine : (c : tie.Else1) → let s = c .before .before .args in anyOf (s .n) (endsFault (s .m) (trackIn (s .a .now) (s .b .now))) ≡ false
-ends-fine c = answered _ _ _ (c .before .some-ends-faulty .ensures) (c .if1 .left)
+-- What was found to be without fault past each test: the segments, the plans, below them the boxes and the listing of segments.
+ends-fine : (c : tie.Else1) →
+    let s = c .before .before .args in anyOf (s .n) (segmentFault (s .m) (trackIn (s .a .now) (s .b .now)) (wayIn (s .ways .now))) ≡ false
+ends-fine c = answered _ _ _ (c .before .some-segment-faulty .ensures) (c .if1 .left)
 
 plans-fine : (c : tie.Else2) → let s = c .before .before .before .before .args in anyOf (s .m) (planFaultAt (s .n) (s .plans)) ≡ false
 plans-fine c = answered _ _ _ (c .before .some-plan-faulty .ensures) (c .if2 .left)
@@ -33,7 +34,7 @@ by-sides : (c : tie.After-some-listing-faulty) →
 by-sides c =
     let plans = c .before .before in
     c .some-listing-faulty .ensures
-    ∙ boxes-by-sides _ _ _ (ends-fine (plans .before .before)) _ _ (plans-fine plans) (few plans) (c .before .stem-sides .ensures)
+    ∙ boxes-by-sides _ _ _ (ends-found _ _ _ _ (ends-fine (plans .before .before))) _ _ (plans-fine plans) (few plans) (c .before .stem-sides .ensures)
 
 boxes-fine : (c : tie.Else3) →
     let s = c .before .before .before .before .before .before .before .args in
@@ -47,25 +48,25 @@ by-places : (c : tie.After-some-unlisted) →
 by-places c =
     let boxes = c .before in
     let plans = boxes .before .before .before in
-    c .some-unlisted .ensures ∙ unlisted-by-places _ _ _ _ (ends-fine (plans .before .before)) (plans-fine plans) (boxes-fine boxes)
+    c .some-unlisted .ensures ∙ unlisted-by-places _ _ _ _ (ends-found _ _ _ _ (ends-fine (plans .before .before))) (plans-fine plans) (boxes-fine boxes)
 
 segments-fine : (c : tie.Else4) →
     let s = c .before .before .before .before .before .before .before .before .before .args in
     anyOf (s .n) (unlistedFault (trackIn (s .a .now) (s .b .now)) (s .plans)) ≡ false
 segments-fine c = answered _ _ _ (by-places (c .before)) (c .if4 .left)
 
-some-ends-faulty-requires : tie.Need-some-ends-faulty-requires
-some-ends-faulty-requires c κs = search needs
+some-segment-faulty-requires : tie.Need-some-segment-faulty-requires
+some-segment-faulty-requires c κs = search needs
 
 returns : tie.Need-returns
-returns c = network-6 _ _ _ _ (answered _ _ _ (c .before .some-ends-faulty .ensures) (c .if1 .taken))
+returns c = network-6 _ _ _ _ _ (answered _ _ _ (c .before .some-segment-faulty .ensures) (c .if1 .taken))
 
 some-plan-faulty-requires : tie.Need-some-plan-faulty-requires
 some-plan-faulty-requires c κs = search needs
 
 returns-2 : tie.Need-returns-2
 returns-2 c =
-    network-7 _ _ _ _
+    network-7 _ _ _ _ _
     (ends-fine (c .before .before))
     (answered _ _ _ (c .before .some-plan-faulty .ensures) (c .if2 .taken))
 
@@ -78,7 +79,7 @@ some-listing-faulty-requires c κs = few (c .before)
 returns-3 : tie.Need-returns-3
 returns-3 c =
     let plans = c .before .before .before in
-    boxes-8 _ _ _ _
+    boxes-8 _ _ _ _ _
     (ends-fine (plans .before .before))
     (plans-fine plans)
     (answered _ _ _ (by-sides (c .before)) (c .if3 .taken))
@@ -89,7 +90,7 @@ some-unlisted-requires c κs = few (c .before .before .before)
 returns-4 : tie.Need-returns-4
 returns-4 c =
     let plans = c .before .before .before .before .before in
-    segments-8 _ _ _ _
+    segments-8 _ _ _ _ _
     (ends-fine (plans .before .before))
     (plans-fine plans)
     (answered _ _ _ (by-places (c .before)) (c .if4 .taken))
@@ -102,7 +103,7 @@ returns-5 c =
     let segments = c .before .before in
     let boxes = segments .before .before in
     let plans = boxes .before .before .before in
-    network-9 _ _ _ _
+    network-9 _ _ _ _ _
     (ends-fine (plans .before .before))
     (plans-fine plans)
     (boxes-fine boxes)
@@ -114,7 +115,7 @@ returns-6 c =
     let segments = c .before .before in
     let boxes = segments .before .before in
     let plans = boxes .before .before .before in
-    network-0 _ _ _ _
+    network-0 _ _ _ _ _
     (ends-fine (plans .before .before))
     (plans-fine plans)
     (boxes-fine boxes)
@@ -125,7 +126,7 @@ pub network-code-spec : {M : Type 1} → statement M
 network-code-spec =
     tie.close
     (tie.spec
-    some-ends-faulty-requires
+    some-segment-faulty-requires
     returns
     some-plan-faulty-requires
     returns-2

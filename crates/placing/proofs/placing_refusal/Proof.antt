@@ -3,7 +3,7 @@ use Prim.Native.Nat.{_≤_}
 use borrow.Author.Needs.{needs}
 use Rattle.rules.proofs.Tests.{answered}
 use Rattle.rules.proofs.Rows.{length-mapped}
-use Rattle.placing.proofs.Routes.{few-trains, refused-10, refused-found, refused-12, refused-0}
+use Rattle.placing.proofs.Routes.{few-trains, refused-10, refused-found, refused-12, refused-32, refused-0}
 use Rattle.placing.proofs.placing_refusal.Statement.{statement}
 use Rattle.placing.proofs.placing_refusal.Tie as tie
 
@@ -23,5 +23,8 @@ placing-refusal-spec =
     (λ c κs. search needs)
     (λ c κs. search needs)
     (λ c. search (refused-12, answered))
+    (λ c κs. few (c .before .before .before .before .before))
+    (λ c κs. search needs)
+    (λ c. search (refused-32, answered))
     (λ c κs. search needs)
     (λ c. search (refused-0, answered)))

@@ -2,20 +2,20 @@
 use Prim.Native.Nat.{_-_}
 use borrow.Author.Needs.{needs}
 use Rattle.rules.proofs.Rows.{NoneYet, none-start, none-turn, none-found, none-done}
-use Rattle.rules.specs.Track.{trackIn}
-use Rattle.rules.specs.Network.{endsFault}
+use Rattle.rules.specs.Track.{trackIn, wayIn}
+use Rattle.rules.specs.Network.{segmentFault}
 use Rattle.rules.proofs.Tests.{answered}
-use Rattle.network.proofs.some_ends_faulty.Statement.{statement}
-use Rattle.network.proofs.some_ends_faulty.Tie as tie
+use Rattle.network.proofs.some_segment_faulty.Statement.{statement}
+use Rattle.network.proofs.some_segment_faulty.Tie as tie
 
 abbrev Inv-loop : tie.InvT-loop
-Inv-loop n m a b s₀ s = NoneYet n (endsFault m (trackIn a b)) s
+Inv-loop n m a b ways s₀ s = NoneYet n (segmentFault m (trackIn a b) (wayIn ways)) s
 
 abbrev μ-loop : tie.MeasureT-loop
-μ-loop n m a b s₀ s = n - s
+μ-loop n m a b ways s₀ s = n - s
 
-pub some-ends-faulty-spec : {M : Type 1} → statement M
-some-ends-faulty-spec =
+pub some-segment-faulty-spec : {M : Type 1} → statement M
+some-segment-faulty-spec =
     tie.close
     (tie.spec
     Inv-loop

@@ -30,7 +30,7 @@ pub segment-read : (bytes : List ℕ) → segmentCount bytes ≤ 96 → (i : ℕ
 unfolding segmentAt decode
 segment-read bytes few i h = rw (nth-at, filled-list-at (segmentIn bytes) noSegment 96 (segmentCount bytes) i h (omega arith))
 
-held-read : (bytes : List ℕ) → segmentCount bytes ≤ 96 → waysFault (versionIn bytes) (segmentCount bytes) (wayOf (decode bytes)) ≡ false
+pub held-read : (bytes : List ℕ) → segmentCount bytes ≤ 96 → waysFault (versionIn bytes) (segmentCount bytes) (wayOf (decode bytes)) ≡ false
 unfolding waysFault someOneWay wayBy segmentAt segmentIn
 held-read bytes few =
     simp (facts, any-false-iff) λ none s.

@@ -12,6 +12,8 @@ use Rattle.rules.specs.Network.{headRows, limitsFault}
 use Rattle.rules.specs.Placing.{tableCode, partsCode, tellsPlace, partsRefusal, tableRefusal}
 use Rattle.rules.specs.File.{marked, versionIn, segmentCount, boxCount, trainCount, fileLength, fileCode, fileRefusal, decode, earlyRows}
 use Rattle.rules.proofs.Refusals.{placeless, refused-alike}
+use Rattle.rules.proofs.Accepted.{limits-iff}
+use Rattle.rules.proofs.Files.{held-read}
 use Rattle.rules.proofs.Tests.{tests, facts, EachCode, outside-false-iff, not-of-true, not-of-false, first-none, first-zero-iff, first-hit, first-skip, first-before}
 use Rattle.tablefile.specs.Whole.{earlyCode, Whole}
 
@@ -72,7 +74,8 @@ module _ (bytes : List ℕ) where
   unfolding fileCode tableCode partsCode decode earlyCode earlyRows headRows
   file-late e =
       let (long, (mark, (version, (limits, (exact, _))))) = simp first-zero-iff at e in
-      sym (first-skip _ _ _ version (first-skip _ _ _ limits refl))
+      let held = held-read bytes (limits-iff _ _ _ .0 limits .segmentsHigh) in
+      sym (first-skip _ _ _ held (first-skip _ _ _ version (first-skip _ _ _ limits refl)))
       ∙ first-skip _ _ _ long (first-skip _ _ _ mark (first-skip _ _ _ version (first-skip _ _ _ limits (first-skip _ _ _ exact refl))))
 
   pub file-refused-late : earlyCode bytes ≡ 0 → tableRefusal (decode bytes) ≡ fileRefusal bytes

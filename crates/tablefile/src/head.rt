@@ -22,7 +22,7 @@ fn marked(bytes: &[u8]) -> bool
 }
 
 // The version, its high byte first.
-fn version(bytes: &[u8]) -> u16
+pub(crate) fn version(bytes: &[u8]) -> u16
     requires { ⌜ 8 ≤ length (now bytes) ⌝ }
     ensures { λ r. ⌜ r ≡ versionIn (now (bytes .entry)) ⌝ }
 {
@@ -47,7 +47,8 @@ pub fn early_code(bytes: &[u8]) -> u8
     if head != 0 {
         return head;
     }
-    if !reader::ends_with_trains(bytes, n, m, k) {
+    let size = layout::segment_size(version);
+    if !reader::ends_with_trains(bytes, n, m, k, size) {
         return 5;
     }
     0
@@ -64,5 +65,6 @@ pub fn table(bytes: &[u8]) -> Table
     let n = bytes[5];
     let m = bytes[6];
     let k = bytes[7];
-    reader::table(bytes, version, n, m, k)
+    let size = layout::segment_size(version);
+    reader::table(bytes, version, n, m, k, size)
 }

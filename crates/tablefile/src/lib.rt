@@ -1,4 +1,4 @@
-// A table file: why it is refused, by codes 1 to 12 and 28, its table record, and the routes of its trains as parts of it.
+// A table file: why it is refused, by codes 1 to 12, 28 and 32, its table record, and the routes of its trains as parts of it.
 pub mod head;
 mod reader;
 mod records;
@@ -29,7 +29,7 @@ pub fn empty_table() -> Table
         n: 0,
         m: 0,
         k: 0,
-        segments: [Segment { a: 0, b: 0 }; 96],
+        segments: [Segment { a: 0, b: 0, way: 0 }; 96],
         boxes: [BoxPlan {
             kind: 0,
             stem: 0,
@@ -45,7 +45,7 @@ pub fn empty_table() -> Table
     }
 }
 
-// What codes 1 to 12 and 28 decide of a file.
+// What codes 1 to 12, 28 and 32 decide of a file.
 pub fn read_table(bytes: &[u8]) -> FileTable
     ensures { λ r. ⌜ r ≡ fileTable (now (bytes .entry)) ⌝ }
 {
@@ -102,7 +102,8 @@ pub fn route<'a>(
     }
     let n = bytes[5];
     let m = bytes[6];
-    let part = reader::from_train(bytes, n, m, number - 1);
+    let size = layout::segment_size(head::version(bytes));
+    let part = reader::from_train(bytes, n, m, number - 1, size);
     let length = part[1] as usize;
     let end = 2 + length;
     &part[2..end]

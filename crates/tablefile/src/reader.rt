@@ -1,6 +1,6 @@
 // The table reader (01, "Table file"): the lent bytes of a file together with the place of its next record. It is made behind the head;
 // the functions over it take it apart and leave the work to functions of `records` on the slice and the place. The last three have
-// plain parameters: whoever calls them knows nothing of the reader.
+// plain parameters: whoever calls them knows nothing of the reader. What the version decides, the size of a segment record, is handed in.
 use crate::records;
 use rules::BoxPlan;
 use rules::Segment;
@@ -92,21 +92,21 @@ fn left<'a>(r: TableReader<'a>) -> &'a [u8]
     records::rest(r.bytes, r.at)
 }
 
-// The reader behind the first `count` train records of a file, with the numbers of its head.
-fn behind_trains<'a>(bytes: &'a [u8], n: u8, m: u8, count: u8) -> TableReader<'a>
-    requires { ⌜ Counts (now bytes) n m ⌝ }
+// The reader behind the first `count` train records of a file, with the numbers of its head and the size of its segment records.
+fn behind_trains<'a>(bytes: &'a [u8], n: u8, m: u8, count: u8, size: u8) -> TableReader<'a>
+    requires { ⌜ Counts (now bytes) n m size ⌝ }
     ensures { λ r. ⌜ (r .bytes ≡ bytes .entry) × (r .at ≡ trainsFrom (now (bytes .entry)) count) ⌝ }
 {
-    past_trains(past(past(made(bytes), n, 2), m, 5), count)
+    past_trains(past(past(made(bytes), n, size), m, 5), count)
 }
 
-// The table record of a whole file, with the numbers of its head.
-pub(crate) fn table(bytes: &[u8], version: u16, n: u8, m: u8, k: u8) -> Table
-    requires { ⌜ Headed (now bytes) version n m k ⌝ }
+// The table record of a whole file, with the numbers of its head and the size of its segment records.
+pub(crate) fn table(bytes: &[u8], version: u16, n: u8, m: u8, k: u8, size: u8) -> Table
+    requires { ⌜ Headed (now bytes) version n m k size ⌝ }
     ensures { λ t. ⌜ t ≡ decode (now (bytes .entry)) ⌝ }
 {
     let segments_at = made(bytes);
-    let boxes_at = past(segments_at, n, 2);
+    let boxes_at = past(segments_at, n, size);
     let trains_at = past(boxes_at, m, 5);
     let segments = next_segments(segments_at);
     let boxes = next_boxes(boxes_at);
@@ -125,17 +125,17 @@ pub(crate) fn table(bytes: &[u8], version: u16, n: u8, m: u8, k: u8) -> Table
 }
 
 // The file ends where its last train record ends.
-pub(crate) fn ends_with_trains(bytes: &[u8], n: u8, m: u8, k: u8) -> bool
-    requires { ⌜ Counts (now bytes) n m ⌝ }
+pub(crate) fn ends_with_trains(bytes: &[u8], n: u8, m: u8, k: u8, size: u8) -> bool
+    requires { ⌜ Counts (now bytes) n m size ⌝ }
     ensures { λ b. ⌜ b ≡ eqb (length (now (bytes .entry))) (trainsFrom (now (bytes .entry)) k) ⌝ }
 {
-    at_end(behind_trains(bytes, n, m, k))
+    at_end(behind_trains(bytes, n, m, k, size))
 }
 
 // The file from the train record behind the first `count` of them on.
-pub(crate) fn from_train(bytes: &[u8], n: u8, m: u8, count: u8) -> &[u8]
-    requires { ⌜ Counts (now bytes) n m × (trainsFrom (now bytes) count ≤ length (now bytes)) ⌝ }
+pub(crate) fn from_train(bytes: &[u8], n: u8, m: u8, count: u8, size: u8) -> &[u8]
+    requires { ⌜ Counts (now bytes) n m size × (trainsFrom (now bytes) count ≤ length (now bytes)) ⌝ }
     ensures { λ s. ⌜ RestOf (bytes .entry) (trainsFrom (now (bytes .entry)) count) s ⌝ }
 {
-    left(behind_trains(bytes, n, m, count))
+    left(behind_trains(bytes, n, m, count, size))
 }

@@ -1,4 +1,5 @@
 // The records of a file, by its bytes and the place at which they begin. Places of the arrays beyond them are 0.
+use crate::head;
 use rules::BoxPlan;
 use rules::Segment;
 use rules::TrainPlan;
@@ -7,10 +8,24 @@ ghost use Prim.Native.Nat.{_+_, _*_, _≤_, _<_, _^_, min};
 ghost use lib.Dec.{eqb};
 ghost use lib.ListN.{length, take, drop};
 ghost use lib.Seq.{sets};
-ghost use Rattle.rules.specs.File.{byteAt, trainsFrom};
-ghost use Rattle.tablefile.specs.Whole.{segmentsOf, boxesOf, trainsOf, routesOf};
+ghost use Rattle.rules.specs.File.{segmentSize, byteAt, trainsFrom};
+ghost use Rattle.tablefile.specs.Whole.{segmentFrom, segmentsOf, boxesOf, trainsOf, routesOf};
 ghost use Rattle.tablefile.specs.Places.{AtSegments, AtBoxes, AtTrains, TrainsAt};
 ghost use Rattle.tablefile.specs.Part.{RestOf};
+
+// The segment whose record of this version begins at a place.
+fn segment(bytes: &[u8], version: u16, at: usize) -> Segment
+    requires { ⌜ at + segmentSize version ≤ length (now bytes) ⌝ }
+    ensures { λ r. ⌜ r ≡ segmentFrom (now (bytes .entry)) version at ⌝ }
+{
+    let a = bytes[at];
+    let b = bytes[at + 1];
+    if layout::has_ways(version) {
+        let way = bytes[at + 2];
+        return Segment { a, b, way };
+    }
+    Segment { a, b, way: 0 }
+}
 
 // The segments, of which the first begins at `from`.
 pub(crate) fn segments(bytes: &[u8], from: usize) -> [Segment; 96]
@@ -18,13 +33,15 @@ pub(crate) fn segments(bytes: &[u8], from: usize) -> [Segment; 96]
     ensures { λ r. ⌜ r ≡ segmentsOf (now (bytes .entry)) ⌝ }
 {
     let n = bytes[5] as usize;
-    let mut all = [Segment { a: 0, b: 0 }; 96];
+    let version = head::version(bytes);
+    let size = layout::segment_size(version) as usize;
+    let mut all = [Segment { a: 0, b: 0, way: 0 }; 96];
+    let mut at = from;
     let mut i: usize = 0;
     while i < n {
-        let at = from + 2 * i;
-        let a = bytes[at];
-        let b = bytes[at + 1];
-        all[i] = Segment { a, b };
+        let s = segment(bytes, version, at);
+        all[i] = s;
+        at += size;
         i += 1;
     }
     all

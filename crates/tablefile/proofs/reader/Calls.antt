@@ -67,15 +67,15 @@ Fits u = (ℓ : Lifetime) → Holds (hasTy (T′.mir ℓ) u) × WT u
 abbrev pub Stands : RefT (List ℕ) → ℕ → TableReader → Type 0
 Stands bytes at r = (r .bytes ≡ bytes) × (r .at ≡ at)
 
--- the readers at a file's first segment, box and train, by the counts of segments and boxes
+-- the readers at a file's first segment, box and train, by the counts of segments and boxes and the size of a segment record
 abbrev pub at-segments : RefT (List ℕ) → TableReader
 at-segments b = record { bytes = b; at = 8 }
 
-abbrev pub at-boxes : RefT (List ℕ) → ℕ → TableReader
-at-boxes b n = record { bytes = b; at = 8 + n * 2 }
+abbrev pub at-boxes : RefT (List ℕ) → (n size : ℕ) → TableReader
+at-boxes b n size = record { bytes = b; at = 8 + n * size }
 
-abbrev pub at-trains : RefT (List ℕ) → (n m : ℕ) → TableReader
-at-trains b n m = record { bytes = b; at = 8 + n * 2 + m * 5 }
+abbrev pub at-trains : RefT (List ℕ) → (n m size : ℕ) → TableReader
+at-trains b n m size = record { bytes = b; at = 8 + n * size + m * 5 }
 
 -- a lifetime's token, as a signature with one lifetime has it
 abbrev pub token : {M : Type 1} (𝓤 : URA M) → Lft → Share → Item 𝓤
@@ -222,23 +222,31 @@ module _ {M : Type 1} (𝓤 : URA M) (H : Heap 𝓤) (A : Atoms 𝓤) (W : Given
         (fact 𝓤 (Stands (r .bytes) (trainsFrom (now (r .bytes)) count) r′)));
   }
 
-  abbrev pub going-behind : (b : RefT (List ℕ)) (n m count : ℕ) → Counts (now b) n m → n < 2 ^ 8 → m < 2 ^ 8 → count < 2 ^ 8
-      → Call 𝓤 H A κ s (BehindTrains 𝓤 H A mem run) (fileVal b ∷ vint w8 n ∷ vint w8 m ∷ vint w8 count ∷ []) (‵ (OfFile κ b))
+  abbrev pub going-behind : (b : RefT (List ℕ)) (n m count size : ℕ) → Counts (now b) n m size
+      → n < 2 ^ 8 → m < 2 ^ 8 → count < 2 ^ 8 → size < 2 ^ 8
+      → Call 𝓤 H A κ s (BehindTrains 𝓤 H A mem run) (fileVal b ∷ vint w8 n ∷ vint w8 m ∷ vint w8 count ∷ vint w8 size ∷ []) (‵ (OfFile κ b))
       (reader (κ, tt)) (Stands b (trainsFrom (now b) count))
-  going-behind b n m count counts n-fits m-fits count-fits = record {
+  going-behind b n m count size counts n-fits m-fits count-fits size-fits = record {
     at = (
-      ((κ, tt), (s, tt), tt, (b, (n, (m, (count, tt)))), (fileVal b ∷ [], (vint w8 n ∷ [], (vint w8 m ∷ [], (vint w8 count ∷ [], tt))))),
+      (
+        (κ, tt),
+        (s, tt),
+        tt,
+        (b, (n, (m, (count, (size, tt))))),
+        (fileVal b ∷ [], (vint w8 n ∷ [], (vint w8 m ∷ [], (vint w8 count ∷ [], (vint w8 size ∷ [], tt))))),
+      ),
       tt,
     );
     passed = refl;
     asks =
         qed W (token 𝓤 κ s ∷ ‵ (OfFile κ b) ∷ []) ∵ says ! counts $ frame ! $ nothing ! $
+        owned ! u8 (Is u8) (uint-makes 𝓤 H A W w8) size _ (refl, size-fits) $ fjoin ! $
         owned ! u8 (Is u8) (uint-makes 𝓤 H A W w8) count _ (refl, count-fits) $ fjoin ! $
         owned ! u8 (Is u8) (uint-makes 𝓤 H A W w8) m _ (refl, m-fits) $ fjoin ! $
         owned ! u8 (Is u8) (uint-makes 𝓤 H A W w8) n _ (refl, n-fits) $ fjoin ! $ move ! (1 ∷ 0 ∷ []) $ fjoin ! $ done !;
-    ensures = ensured 𝓤 H A behind-trains.ended (behind-trains.clauses 𝓤 H A mem run) (κ, tt) (b, (n, (m, (count, tt)))) tt;
+    ensures = ensured 𝓤 H A behind-trains.ended (behind-trains.clauses 𝓤 H A mem run) (κ, tt) (b, (n, (m, (count, (size, tt))))) tt;
     gives = λ u. id⊢ 𝓤 _;
-    tells = λ r. exE 𝓤 _ (λ ws. snd∗ 𝓤 (sem 𝓤 H A (lasts behind-trains.ended (κ, tt) (b, (n, (m, (count, tt)))) ws))
+    tells = λ r. exE 𝓤 _ (λ ws. snd∗ 𝓤 (sem 𝓤 H A (lasts behind-trains.ended (κ, tt) (b, (n, (m, (count, (size, tt))))) ws))
         (fact 𝓤 (Stands b (trainsFrom (now b) count) r)));
   }
 

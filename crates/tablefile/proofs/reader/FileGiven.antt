@@ -1,4 +1,5 @@
--- Functions of a file and three numbers, of its segments, its boxes and the trains to go past: what their walks have at entry and at exit.
+-- Functions of a file and four numbers, of its segments, its boxes and the trains to go past, and the size of a segment record: what their
+-- walks have at entry and at exit.
 use mathlib.Core.Path.{refl}
 use Prim.Native.Nat.{ℕ}
 use mathlib.Core.List.{List, [], _∷_}
@@ -35,39 +36,39 @@ module _ (result : Slot 1) where
     signature = record {
       lifetimes = 1;
       outlives = [];
-      params = SliceRefOf (0 ∷ []) tt (plain (λ _. u8)) (λ _. tt) ∷ plain (λ _. u8) ∷ plain (λ _. u8) ∷ plain (λ _. u8) ∷ [];
+      params = SliceRefOf (0 ∷ []) tt (plain (λ _. u8)) (λ _. tt) ∷ plain (λ _. u8) ∷ plain (λ _. u8) ∷ plain (λ _. u8) ∷ plain (λ _. u8) ∷ [];
       result = result;
     };
-    kept = (yes, (yes, (yes, (yes, tt))));
+    kept = (yes, (yes, (yes, (yes, (yes, tt)))));
   }
 
   abbrev pub stayed : Stays (file-given .signature .params) (file-given .kept)
   stayed =
       let number = stay-none {n = 1} (λ _. u8) yes in
-      (stay-none-slice (0 ∷ []) tt (plain (λ _. u8)) yes, (number, (number, (number, tt))))
+      (stay-none-slice (0 ∷ []) tt (plain (λ _. u8)) yes, (number, (number, (number, (number, tt)))))
 
   pub goes : {M : Type 1} (𝓤 : URA M) (H : Heap 𝓤) (A : Atoms 𝓤) (W : Given 𝓤 H A)
       → AllGo 𝓤 H A W 1 (file-given .signature .params) (file-given .kept) stayed
   goes 𝓤 H A W =
       let number = goes-none 𝓤 H A W 1 (λ _. u8) yes (λ κs x f. refl) in
-      (goes-none-slice 𝓤 H A W 1 (0 ∷ []) tt (plain (λ _. u8)) yes, (number, (number, (number, tt))))
+      (goes-none-slice 𝓤 H A W 1 (0 ∷ []) tt (plain (λ _. u8)) yes, (number, (number, (number, (number, tt)))))
 
   abbrev pub spelled : (κs : Lfts 1) → Spells (typesAt (file-given .signature .params) κs)
-  spelled κs = (slice-vals, (uint-vals w8, (uint-vals w8, (uint-vals w8, tt))))
+  spelled κs = (slice-vals, (uint-vals w8, (uint-vals w8, (uint-vals w8, (uint-vals w8, tt)))))
 
   pub told : (κs : Lfts 1)
       → Tellss (typesAt (file-given .signature .params) κs) (Ises (typesAt (file-given .signature .params) κs)) (spelled κs)
-  told κs = (shr-slice-tells (named 0) (κs .0) u8, (uint-tells w8, (uint-tells w8, (uint-tells w8, tt))))
+  told κs = (shr-slice-tells (named 0) (κs .0) u8, (uint-tells w8, (uint-tells w8, (uint-tells w8, (uint-tells w8, tt)))))
 
 -- the arguments, their machine values, what the numbers own, and the reader behind k trains
-abbrev pub args : RefT (List ℕ) → (n m k : ℕ) → RefT (List ℕ) × (ℕ × (ℕ × (ℕ × Unit {0})))
-args b n m k = (b, (n, (m, (k, tt))))
+abbrev pub args : RefT (List ℕ) → (n m k z : ℕ) → RefT (List ℕ) × (ℕ × (ℕ × (ℕ × (ℕ × Unit {0}))))
+args b n m k z = (b, (n, (m, (k, (z, tt)))))
 
-abbrev pub vals : RefT (List ℕ) → (n m k : ℕ) → List Val × (List Val × (List Val × (List Val × Unit {0})))
-vals b n m k = (fileVal b ∷ [], (vint w8 n ∷ [], (vint w8 m ∷ [], (vint w8 k ∷ [], tt))))
+abbrev pub vals : RefT (List ℕ) → (n m k z : ℕ) → List Val × (List Val × (List Val × (List Val × (List Val × Unit {0}))))
+vals b n m k z = (fileVal b ∷ [], (vint w8 n ∷ [], (vint w8 m ∷ [], (vint w8 k ∷ [], (vint w8 z ∷ [], tt)))))
 
-abbrev pub Numbers : RefT (List ℕ) → (n m k : ℕ) → Fml
-Numbers b n m k = owns (u8 ∷ u8 ∷ u8 ∷ []) (n, (m, (k, tt))) (vals b n m k .1)
+abbrev pub Numbers : RefT (List ℕ) → (n m k z : ℕ) → Fml
+Numbers b n m k z = owns (u8 ∷ u8 ∷ u8 ∷ u8 ∷ []) (n, (m, (k, (z, tt)))) (vals b n m k z .1)
 
 abbrev pub behind : RefT (List ℕ) → ℕ → TableReader
 behind b k = record { bytes = b; at = trainsFrom (now b) k }

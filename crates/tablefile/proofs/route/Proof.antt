@@ -1,10 +1,10 @@
 -- The part is empty where the route's code is not 0, and within the file where it is.
 use Prim.Native.Nat.{_+_, _-_, _≤_}
-use mathlib.Core.Path.{_≡_, refl, sym, _∙_}
+use mathlib.Core.Path.{_≡_, refl, sym, _∙_, ap}
 use native.Mathlib.Omega.{arith}
 use borrow.Author.Needs.{needs}
 use lib.ListN.{length, getD}
-use Rattle.rules.specs.File.{byteAt, segmentCount, boxCount, routeRefusal}
+use Rattle.rules.specs.File.{segmentSize, byteAt, segmentCount, boxCount, routeRefusal}
 use Rattle.rules.proofs.Refusals.{code-of, numbers}
 use Rattle.tablefile.proofs.Parts.{whole-boxes}
 use Rattle.tablefile.proofs.Placed.{placed, placed-further}
@@ -31,25 +31,31 @@ read-m : tie.Need-shared-slice-read-m
 read-m c = omega (arith, whole-boxes _ (part-whole _ _ (taken (c .before .before))))
 
 sub-from-train : tie.Need-sub-from-train
-sub-from-train c = within _ _ (taken (c .before .before)) .1 .0
+sub-from-train c = within _ _ (taken (c .before .before .before .before)) .1 .0
+
+version-requires : tie.Need-version-requires
+version-requires c κs = omega (arith, whole-boxes _ (part-whole _ _ (taken (c .before .before))))
 
 from-train-requires : tie.Need-from-train-requires
 unfolding segmentCount boxCount byteAt
-from-train-requires c κs = (record { segments = refl; boxes = refl }, part-place _ _ (taken (c .before .before)))
+from-train-requires c κs = (
+  record { segments = refl; boxes = refl; size-is = c .segment-size .ensures ∙ ap segmentSize (c .before .version .ensures) },
+  part-place _ _ (taken (c .before .before .before .before)),
+)
 
 -- The route's bytes are within what is left of the file.
 room : (c : tie.After-from-train) →
     let rest = c .from-train .result .now in
     2 + getD rest 1 0 ≤ length rest
-room c = part-room _ _ (taken (c .before .before .before)) _ (c .from-train .ensures .left)
+room c = part-room _ _ (taken (c .before .before .before .before .before)) _ (c .from-train .ensures .left)
 
 returns-2 : tie.Need-returns-2
 returns-2 c =
     let f = c .before .before in
     let size = getD (f .from-train .result .now) 1 0 in
-    let z = taken (f .before .before .before) in
+    let z = taken (f .before .before .before .before .before) in
     let rest = f .from-train .ensures in
-    numbers (f .before .before .before .before .before .route-refusal .ensures)
+    numbers (f .before .before .before .before .before .before .before .route-refusal .ensures)
     (placed-further _ _ _ _ 2 (rest .pointer) (from-some _ _ z), part-some _ _ z _ (rest .left) (2 + size - 2) (omega arith))
 
 pub route-spec : {M : Type 1} → statement M
@@ -63,6 +69,8 @@ route-spec =
     returns
     read-n
     read-m
+    version-requires
+    (λ c κs. search needs)
     sub-from-train
     from-train-requires
     (λ c. omega (arith, room (c .before)))

@@ -1,11 +1,11 @@
 -- The codes in their order, by the tests that led to each return.
 use Prim.Native.Nat.{_≤_}
-use mathlib.Core.Path.{_≡_, refl, sym, _∙_}
+use mathlib.Core.Path.{_≡_, refl, sym, _∙_, ap}
 use mathlib.Core.Bool.{true}
 use borrow.Author.Needs.{needs}
 use borrow.Author.Tests.{not-true, not-false, eqb-true, eqb-false}
 use lib.ListN.{length}
-use Rattle.rules.specs.File.{byteAt, marked, segmentCount, boxCount, trainCount, fileLength}
+use Rattle.rules.specs.File.{segmentSize, byteAt, marked, segmentCount, boxCount, trainCount, fileLength}
 use Rattle.tablefile.proofs.Codes.{early-1, early-2, early-head, early-5, early-0}
 use Rattle.tablefile.proofs.head.early_code.Statement.{statement}
 use Rattle.tablefile.proofs.head.early_code.Tie as tie
@@ -31,12 +31,14 @@ returns-3 c =
 
 ends-with-trains-requires : tie.Need-ends-with-trains-requires
 unfolding segmentCount boxCount byteAt
-ends-with-trains-requires c κs = record { segments = refl; boxes = refl }
+ends-with-trains-requires c κs =
+    let v = c .before .before .before .before .before .before in
+    record { segments = refl; boxes = refl; size-is = c .segment-size .ensures ∙ ap segmentSize (v .version .ensures) }
 
 returns-4 : tie.Need-returns-4
 unfolding segmentCount boxCount trainCount fileLength byteAt
 returns-4 c =
-    let z = c .before .before in
+    let z = c .before .before .before in
     let v = z .before .before .before .before .before in
     let h = head (v .before) in
     let e = sym (c .before .ends-with-trains .ensures) ∙ not-true _ (c .if4 .taken) in
@@ -45,7 +47,7 @@ returns-4 c =
 returns-5 : tie.Need-returns-5
 unfolding segmentCount boxCount trainCount fileLength byteAt
 returns-5 c =
-    let z = c .before .before in
+    let z = c .before .before .before in
     let v = z .before .before .before .before .before in
     let h = head (v .before) in
     let e = sym (c .before .ends-with-trains .ensures) ∙ not-false _ (c .if4 .left) in
@@ -64,6 +66,7 @@ early-code-spec =
     (λ c. search needs)
     (λ c κs. search needs)
     returns-3
+    (λ c κs. search needs)
     ends-with-trains-requires
     returns-4
     returns-5)

@@ -1,8 +1,8 @@
 -- A file that codes 1 to 5 let through is whole, and the numbers that the table reader is given are those of its head.
-use mathlib.Core.Path.{refl, sym, _∙_}
+use mathlib.Core.Path.{refl, sym, _∙_, ap}
 use native.Mathlib.Omega.{arith}
 use borrow.Author.Needs.{needs}
-use Rattle.rules.specs.File.{byteAt, segmentCount, boxCount, trainCount}
+use Rattle.rules.specs.File.{segmentSize, byteAt, segmentCount, boxCount, trainCount}
 use Rattle.tablefile.specs.Whole.{Whole}
 use Rattle.tablefile.proofs.Parts.{whole-boxes}
 use Rattle.tablefile.proofs.Files.{table-none, file-whole, table-some}
@@ -30,17 +30,17 @@ read-k c = omega (arith, whole-boxes _ (whole (c .before .before .before .before
 table-requires : tie.Need-table-requires
 unfolding segmentCount boxCount trainCount byteAt
 table-requires c κs =
-    let v = c .before .before .before in
+    let v = c .before .before .before .before in
     record {
       whole = whole (v .before);
       version-is = v .version .ensures;
-      counts = record { segments = refl; boxes = refl };
+      counts = record { segments = refl; boxes = refl; size-is = c .segment-size .ensures ∙ ap segmentSize (v .version .ensures) };
       trains = refl;
     }
 
 returns-2 : tie.Need-returns-2
 returns-2 c =
-    let passed = c .before .before .before .before .before in
+    let passed = c .before .before .before .before .before .before in
     c .table .ensures ∙ sym (table-some _ _ (passed .before .early-code .ensures) (passed .if1 .left))
 
 pub table-spec : {M : Type 1} → statement M
@@ -54,5 +54,6 @@ table-spec =
     read-n
     read-m
     read-k
+    (λ c κs. search needs)
     table-requires
     returns-2)

@@ -26,14 +26,14 @@ ends-with-trains-spec 𝓤 H 𝓜 𝓖 𝓡 =
     (λ κs x u is. bool-lawful 𝓤 H (𝓖 .A) (givenOf 𝓤 H 𝓜 𝓖) .typed x (u ∷ []) is .0)
     (own.clauses 𝓤 H (𝓖 .A) (𝓜 .mem) (𝓡 .run)) (called.clauses 𝓤 H (𝓖 .A) (𝓜 .mem) (𝓡 .run))
     record {
-      Asked = λ b n m k. Counts (now b) n m;
+      Asked = λ b n m k z. Counts (now b) n m z;
       Told = λ κs b k e. e ≡ eqb (length (now b)) (trainsFrom (now b) k);
-      ghost = λ κs b n m k g. g;
-      asked = λ κs b n m k g. id⊢ 𝓤 _;
-      counts = λ b n m k counts. counts;
-      holds = λ κs b n m k g counts. id⊢ 𝓤 (emp 𝓤);
-      tells = λ κs b n m k g r ws. id⊢ 𝓤 _;
-      says = λ κs b n m k g r e. factI 𝓤 _ (emp 𝓤) e;
+      ghost = λ κs b n m k z g. g;
+      asked = λ κs b n m k z g. id⊢ 𝓤 _;
+      counts = λ b n m k z counts. counts;
+      holds = λ κs b n m k z g counts. id⊢ 𝓤 (emp 𝓤);
+      tells = λ κs b n m k z g r ws. id⊢ 𝓤 _;
+      says = λ κs b n m k z g r e. factI 𝓤 _ (emp 𝓤) e;
     }
     code.env name called-def.name (code.unfolded 𝓤 H 𝓜 𝓡) code.calls-tablefile·reader·behind-trains
     called-def.routine code.calls-tablefile·reader·at-end (called-thm.met 𝓤 H 𝓜 𝓖 𝓡)

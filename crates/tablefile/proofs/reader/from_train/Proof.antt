@@ -29,14 +29,14 @@ from-train-spec 𝓤 H 𝓜 𝓖 𝓡 =
     (λ κs x u is. shr-slice-lawful 𝓤 H (𝓖 .A) (givenOf 𝓤 H 𝓜 𝓖) (named 0) (κs .0) u8 .typed x (u ∷ []) is .0)
     (own.clauses 𝓤 H (𝓖 .A) (𝓜 .mem) (𝓡 .run)) (called.clauses 𝓤 H (𝓖 .A) (𝓜 .mem) (𝓡 .run))
     record {
-      Asked = λ b n m k. Counts (now b) n m × (trainsFrom (now b) k ≤ length (now b));
+      Asked = λ b n m k z. Counts (now b) n m z × (trainsFrom (now b) k ≤ length (now b));
       Told = λ κs b k s. RestOf b (trainsFrom (now b) k) s;
-      ghost = λ κs b n m k g. g;
-      asked = λ κs b n m k g. id⊢ 𝓤 _;
-      counts = λ b n m k asked. asked .0;
-      holds = λ κs b n m k g asked. factI 𝓤 _ (emp 𝓤) (asked .1);
-      tells = λ κs b n m k g r ws. id⊢ 𝓤 _;
-      says = λ κs b n m k g r e. factI 𝓤 _ (emp 𝓤) e;
+      ghost = λ κs b n m k z g. g;
+      asked = λ κs b n m k z g. id⊢ 𝓤 _;
+      counts = λ b n m k z asked. asked .0;
+      holds = λ κs b n m k z g asked. factI 𝓤 _ (emp 𝓤) (asked .1);
+      tells = λ κs b n m k z g r ws. id⊢ 𝓤 _;
+      says = λ κs b n m k z g r e. factI 𝓤 _ (emp 𝓤) e;
     }
     code.env name called-def.name (code.unfolded 𝓤 H 𝓜 𝓡) code.calls-tablefile·reader·behind-trains
     called-def.routine code.calls-tablefile·reader·left (called-thm.met 𝓤 H 𝓜 𝓖 𝓡)

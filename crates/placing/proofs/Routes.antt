@@ -18,7 +18,7 @@ use Rattle.rules.specs.declared.TrainPlan.{TrainPlan}
 use Rattle.rules.specs.declared.Refusal.{Refusal}
 use Rattle.rules.specs.Rows.{outside, anyOf, first}
 use Rattle.rules.specs.Track.{noTrainPlan, routeAt, Track, runsAgainst, nearBox, farBox, follows}
-use Rattle.rules.specs.Placing.{withoutPlace, routeShapeFault, placeRows, routePlaceFault, routeFault, startFault, againstFaultAt, shapeFaultAt, routeFaultAt, routesFault, placingRows, tellsPlace, refusalBy}
+use Rattle.rules.specs.Placing.{withoutPlace, routeShapeFault, placeRows, routePlaceFault, routeFault, startFault, startAgainstAt, shapeFaultAt, routeFaultAt, routesFault, placingRows, tellsPlace, refusalBy}
 
 -- What code 10 says of the train with index i; r is what a function answered for it, and v what a branch found.
 pub shape-answer : (trains : List TrainPlan) (i : ℕ) (r v : Bool)
@@ -181,8 +181,8 @@ begun-done routes k i begun h l = none-done k _ i (h .yet) l
 -- What code 32 says of the train with index i, which begins with segment s; r is what a function answered for it, and v what a branch
 -- found.
 pub against-answer : (way : ℕ → ℕ) (trains : List TrainPlan) (routes : List ℕ) (i s : ℕ) (r v : Bool) → s ≡ routeAt routes (i + 1) 1
-    → r ≡ runsAgainst (getD trains i noTrainPlan .direction) (way s) → r ≡ v → againstFaultAt way trains routes (i + 1) ≡ v
-unfolding againstFaultAt
+    → r ≡ runsAgainst (getD trains i noTrainPlan .direction) (way s) → r ≡ v → startAgainstAt way trains routes (i + 1) ≡ v
+unfolding startAgainstAt
 against-answer way trains routes i s r v first e f = rw (nth-at, ← first) (answered _ _ _ e f)
 
 -- Why a table with these trains is refused, by the tests that led there; x is what a function answered.
@@ -214,10 +214,10 @@ module _ (n k : ℕ) (track : Track) (way : ℕ → ℕ) (trains : List TrainPla
       refused-12 is start = refused-nowhere _ _ x 12 is refl (rw sound (search tests))
 
       module _ (start : anyOf k (startFault routes) ≡ false) where
-        pub refused-32 : x ≡ withoutPlace 32 → anyOf k (againstFaultAt way trains routes) ≡ true → Refused
+        pub refused-32 : x ≡ withoutPlace 32 → anyOf k (startAgainstAt way trains routes) ≡ true → Refused
         unfolding placingRows tellsPlace
         refused-32 is against = refused-nowhere _ _ x 32 is refl (rw sound (search tests))
 
-        pub refused-0 : x ≡ withoutPlace 0 → anyOf k (againstFaultAt way trains routes) ≡ false → Refused
+        pub refused-0 : x ≡ withoutPlace 0 → anyOf k (startAgainstAt way trains routes) ≡ false → Refused
         unfolding placingRows tellsPlace first
         refused-0 is along = refused-nowhere _ _ x 0 is refl (rw sound (search tests))

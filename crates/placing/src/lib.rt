@@ -6,7 +6,7 @@ ghost use Prim.Native.Nat.{_+_, _≤_, min};
 ghost use lib.ListN.{length};
 ghost use Rattle.rules.specs.Rows.{first, anyOf};
 ghost use Rattle.rules.specs.Track.{routeAt, trackIn, wayIn, follows};
-ghost use Rattle.rules.specs.Placing.{withoutPlace, routeShapeFault, placeRows, routeFault, startFault, againstFaultAt, shapeFaultAt, routesFault, placingRows, refusalBy};
+ghost use Rattle.rules.specs.Placing.{withoutPlace, routeShapeFault, placeRows, routeFault, startFault, startAgainstAt, shapeFaultAt, routesFault, placingRows, refusalBy};
 
 // A refusal by a code that is about no place of a route; with code 0 it is none.
 pub fn without_place(code: u8) -> Refusal
@@ -209,7 +209,7 @@ fn some_start_shared(k: u8, routes: &[u8; 1024]) -> bool
 // Code 32: some train starts against the way of its first segment.
 fn some_start_against(k: u8, trains: [TrainPlan; 16], routes: &[u8; 1024], ways: &[u8; 256]) -> bool
     requires { ⌜ k ≤ 16 ⌝ }
-    ensures { λ r. ⌜ r ≡ anyOf k (againstFaultAt (wayIn (now (ways .entry))) trains (now (routes .entry))) ⌝ }
+    ensures { λ r. ⌜ r ≡ anyOf k (startAgainstAt (wayIn (now (ways .entry))) trains (now (routes .entry))) ⌝ }
 {
     let mut number: u8 = 0;
     // Train number + 1 is looked at, up to the last.

@@ -14,7 +14,7 @@ use Rattle.rules.specs.Rows.{anyOf, nth, outside}
 use Rattle.rules.specs.Track.{noBoxPlan, planAt, trainPlanAt, routeAt, Track, trackOf, wayBy, wayOf, runsAgainst, nearBox, farBox, follows, isPoint, positionFits}
 use Rattle.rules.specs.Loop.{SegmentOf, Loop}
 use Rattle.rules.specs.Network.{knownVersion, hasWays, someOneWay, waysFault, limitsFault, endsFault, segmentFault, placeFault, branchesFault, planFault, lists, hasEndA, hasEndB, listedFault, sideFault, boxFault, planFaultAt, boxFaultAt, unlistedFault, headRows, networkRows}
-use Rattle.rules.specs.Placing.{firstOf, routeShapeFault, placeRows, routePlaceFault, routeFault, startFault, againstFaultAt, shapeFaultAt, routeFaultAt, routesFault, placingRows, partsCode, tableCode}
+use Rattle.rules.specs.Placing.{firstOf, routeShapeFault, placeRows, routePlaceFault, routeFault, startFault, startAgainstAt, shapeFaultAt, routeFaultAt, routesFault, placingRows, partsCode, tableCode}
 use Rattle.rules.specs.Safety.{TrainOf, onRoute}
 use Rattle.rules.proofs.Tests.{facts, or-true-iff, eqb-true-iff, leb-true-iff, outside-false-iff, first-none, first-zero-iff, first-code-iff}
 use Rattle.rules.proofs.Rows.{any-false-iff, once}
@@ -330,7 +330,7 @@ faultless t a i h = routed-iff (t .n) (trackOf t) (t .routes) i _ _ .1 (a .route
 
 -- A table is accepted exactly where its code is 0.
 pub accepted-iff : (t : Table) → (tableCode t ≡ 0) ↔ Accepted t
-unfolding tableCode partsCode headRows networkRows placingRows routesFault planFaultAt boxFaultAt againstFaultAt shapeFaultAt routeFaultAt planAt trainPlanAt
+unfolding tableCode partsCode headRows networkRows placingRows routesFault planFaultAt boxFaultAt startAgainstAt shapeFaultAt routeFaultAt planAt trainPlanAt
 accepted-iff t =
     simp
     (facts, first-zero-iff, first-code-iff, first-none, held-iff, any-segment-iff, any-box-iff, any-train-iff, first-train-iff, limits-iff, segment-fault-iff, plan-iff, sides-iff, listing-iff, no-loop-iff) (

@@ -5,8 +5,8 @@ use mathlib.Core.Bool.{true, false, false≢true}
 use mathlib.Core.List.{List, [], _∷_}
 use native.Mathlib.Decide.{ℕ-discrete}
 use native.Mathlib.Omega.{arith}
-use borrow.Author.Tests.{ne-eqb}
-use lib.Dec.{eqb}
+use borrow.Author.Tests.{eqb-false, ne-eqb}
+use lib.Dec.{eqb, eqb·suc-zero}
 use Rattle.rules.specs.declared.BoxPlan.{BoxPlan}
 use Rattle.rules.specs.declared.Table.{Table}
 use Rattle.rules.specs.declared.SwitchBox.{SwitchBox}
@@ -33,6 +33,12 @@ use Rattle.rules.proofs.StepKinds.{Does, refuses, sends, denies, grants
 use Rattle.rules.proofs.StepRows.{next-grant-iff, granted-each}
 use Rattle.rules.proofs.Start.{each-start-box}
 use Rattle.rules.proofs.Moves.{fixed-stays}
+
+-- A train of direction 0 or 1 that does not run against a segment.
+pub along-way : (d way : ℕ) → d ≤ 1 → runsAgainst d way ≡ false → (way ≡ 1 → d ≡ 0) × (way ≡ 2 → d ≡ 1)
+unfolding runsAgainst
+along-way zero way low e = (λ _. refl, λ two. absurd (eqb-false way 2 e two))
+along-way (suc d) way low e = (λ one. absurd (eqb-false way 1 (rw eqb·suc-zero at e) one), λ _. omega arith)
 
 module _ (t : Table) where
   -- If i is a train of the table, it passes segment s along its way; so do those for which a box has segments reserved.

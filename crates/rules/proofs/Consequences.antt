@@ -27,7 +27,7 @@ use Rattle.rules.proofs.SettledSteps.{enter-idle}
 use Rattle.rules.proofs.Moves.{other-trains, other-boxes}
 use Rattle.rules.proofs.Checked.{checked-line, checked-events}
 use Rattle.rules.proofs.Occupied.{lock-told, occupied}
-use Rattle.rules.proofs.Along.{AlongOn, always-along, reserved-along, way-told, start-along}
+use Rattle.rules.proofs.Along.{along-way, AlongOn, always-along, reserved-along, way-told, start-along}
 use Rattle.rules.proofs.Again.{yes-heard}
 use Rattle.rules.proofs.Returned.{returned}
 use Rattle.rules.proofs.Repeats.{again, once}
@@ -76,7 +76,7 @@ consequences bytes e steps =
       checkedEvents = checked-events (startLine t) (λ z. after z .sound) steps;
       occupied = occupied a steps;
       lockTold = λ i q b k c s kind box u asked. lock-told h s b kind box (known (s .train) u) asked (sensed-there a steps k c);
-      along = λ i k q c. reserved-along t l along _ _ i (covered-held a steps k c) k;
+      along = λ i k q c. along-way _ _ (a .routes i k .direction) (reserved-along t l along _ _ i (covered-held a steps k c) k);
       wayTold = λ s b kind box k asked against.
           way-told t l (line-fixed a steps) along s b kind box k asked (rw (next-there a steps (s .train) k) against);
       silent = λ s. silent h s _ (does (reached t steps) s);

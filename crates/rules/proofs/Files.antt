@@ -12,7 +12,7 @@ use Rattle.rules.specs.declared.Table.{Table}
 use Rattle.rules.specs.Track.{noSegment, segmentAt, wayBy, wayOf}
 use Rattle.rules.specs.Network.{someOneWay, waysFault, headRows}
 use Rattle.rules.specs.Placing.{tableCode, partsCode}
-use Rattle.rules.specs.File.{earlyRows, headSize, marked, versionIn, segmentCount, fileLength, segmentIn, decode, fileCode, encode, writeRefusal}
+use Rattle.rules.specs.File.{earlyRows, headSize, marked, versionIn, segmentCount, fileLength, segmentFrom, segmentIn, decode, fileCode, encode, writeRefusal}
 use Rattle.rules.proofs.Tests.{facts, first-none, first-zero-iff}
 use Rattle.rules.proofs.Rows.{any-false-iff, nth-at, filled-list-at}
 use Rattle.rules.proofs.Refusals.{table-coded, then-zero-iff}
@@ -31,7 +31,7 @@ unfolding segmentAt decode
 segment-read bytes few i h = rw (nth-at, filled-list-at (segmentIn bytes) noSegment 96 (segmentCount bytes) i h (omega arith))
 
 pub held-read : (bytes : List ℕ) → segmentCount bytes ≤ 96 → waysFault (versionIn bytes) (segmentCount bytes) (wayOf (decode bytes)) ≡ false
-unfolding waysFault someOneWay wayBy segmentAt segmentIn
+unfolding waysFault someOneWay wayBy segmentAt segmentIn segmentFrom
 held-read bytes few =
     simp (facts, any-false-iff) λ none s.
     elim s [

@@ -14,7 +14,7 @@ use Rattle.rules.specs.Rows.{joinOf, filled}
 use Rattle.rules.specs.Track.{segmentAt, planAt, trainPlanAt, wayBy}
 use Rattle.rules.specs.Network.{hasWays}
 use Rattle.rules.specs.Placing.{tableCode}
-use Rattle.rules.specs.File.{segmentSize, boxSize, trainSize, byteAt, marked, versionIn, segmentCount, boxCount, trainCount, segmentStart, boxStart, trainsFrom, trainStart, fileLength, segmentIn, planIn, trainPlanIn, routeIn, decode, fileCode, headBytes, segmentBytes, boxBytes, trainBytes, encode, usedPart}
+use Rattle.rules.specs.File.{segmentSize, boxSize, trainSize, byteAt, marked, versionIn, segmentCount, boxCount, trainCount, segmentStart, boxStart, trainsFrom, trainStart, fileLength, segmentFrom, segmentIn, planIn, trainPlanIn, routeIn, decode, fileCode, headBytes, segmentBytes, boxBytes, trainBytes, encode, usedPart}
 use Rattle.rules.proofs.Rows.{list-length, list-same, join-none, join-more, join-same, join-cut, join-length}
 use Rattle.rules.proofs.Accepted.{Accepted, accepted}
 use Rattle.rules.proofs.Files.{file-iff}
@@ -120,7 +120,7 @@ module _ (t : Table) where
 
   -- Each segment and each box is read back. The way of a segment is, if the version can hold it.
   segment-back : Accepted t → (i : ℕ) → i < t .n → segmentIn (encode t) (i + 1) ≡ segmentAt t (i + 1)
-  unfolding segmentIn segmentBytes wayBy segmentAt
+  unfolding segmentIn segmentFrom segmentBytes wayBy segmentAt
   segment-back ok i l =
       let s = segment-stands i l in
       rw (stands-first s, stands-byte s 1, version-read, by (hasWays (t .version)) refl s)

@@ -16,7 +16,7 @@ use Rattle.rules.specs.Rows.{anyOf, nth, listOf, joinOf, filled}
 use Rattle.rules.specs.Track.{noSegment, noBoxPlan, noTrainPlan, segmentAt, planAt, trainPlanAt, routeAt, trackOf, trackBy, wayOf, wayBy, farBox, nearBox, follows}
 use Rattle.rules.specs.Loop.{hasLoop}
 use Rattle.rules.specs.Network.{someOneWay, waysFault, endsFault, segmentFault, planFault, hasEndA, hasEndB, listedFault, sideFault, boxFault, planFaultAt, boxFaultAt, unlistedFault, headRows, networkRows}
-use Rattle.rules.specs.Placing.{firstOf, routeShapeFault, placeRows, routePlaceFault, routeFault, startFault, againstFaultAt, shapeFaultAt, routeFaultAt, routesFault, placingRows, partsCode, tableCode}
+use Rattle.rules.specs.Placing.{firstOf, routeShapeFault, placeRows, routePlaceFault, routeFault, startFault, startAgainstAt, shapeFaultAt, routeFaultAt, routesFault, placingRows, partsCode, tableCode}
 use Rattle.rules.specs.File.{usedPart}
 use Rattle.rules.proofs.Rows.{any-same, filled-length, filled-same, join-at, list-at, filled-nth}
 use Rattle.rules.proofs.Loop.{loop-same}
@@ -140,8 +140,8 @@ module _ (t u : Table) (same : SameUse t u) (ok : Accepted t) where
       rw (same .routes i 1 h (ok .routes i (omega arith) .low), same .routes j 1 (omega arith) (ok .routes j (omega arith) .low))
 
   against-same : (i : ℕ) → 1 ≤ i → i ≤ t .k
-      → againstFaultAt (wayOf u) (u .trains) (u .routes) i ≡ againstFaultAt (wayOf t) (t .trains) (t .routes) i
-  unfolding againstFaultAt trainPlanAt
+      → startAgainstAt (wayOf u) (u .trains) (u .routes) i ≡ startAgainstAt (wayOf t) (t .trains) (t .routes) i
+  unfolding startAgainstAt trainPlanAt
   against-same i l h =
       let one = ok .routes i (omega arith) .low in
       rw (same .trains i h, same .routes i 1 h one, way-same _ (route-high t ok i 1 l h one))

@@ -12,7 +12,7 @@ use lib.ListN.{drop}
 use lib.Seq.{getD-take, getD-drop}
 use Rattle.rules.specs.Rows.{listFrom, listOf, joinOf}
 use Rattle.rules.specs.Track.{noBoxPlan, noTrainPlan, planAt, trainPlanAt, routeAt}
-use Rattle.rules.specs.File.{headSize, segmentSize, boxSize, trainSize, byteAt, marked, versionIn, segmentCount, boxCount, trainCount, segmentStart, boxStart, trainsFrom, trainStart, fileLength, segmentIn, planIn, trainPlanIn, routeIn, decode, fileCode, headBytes, segmentBytes, boxBytes, trainBytes, encode}
+use Rattle.rules.specs.File.{headSize, segmentSize, boxSize, trainSize, byteAt, marked, versionIn, segmentCount, boxCount, trainCount, segmentStart, boxStart, trainsFrom, trainStart, fileLength, segmentFrom, segmentIn, planIn, trainPlanIn, routeIn, decode, fileCode, headBytes, segmentBytes, boxBytes, trainBytes, encode}
 use Rattle.rules.specs.Network.{knownVersion, hasWays}
 use Rattle.rules.proofs.Tests.{facts, or-true-iff, eqb-true-iff}
 use Rattle.rules.proofs.Rows.{nth-at, filled-list-at, from-same, from-all, join-parts}
@@ -73,7 +73,7 @@ module _ (bytes : List ℕ) (a : AcceptedFile bytes) where
 
   segment-written : (i : ℕ) → i < segmentCount bytes
       → segmentBytes (decode bytes) (i + 1) ≡ part bytes (segmentStart bytes (i + 1)) (segmentSize (versionIn bytes))
-  unfolding segmentBytes segmentIn segmentSize decode listFrom
+  unfolding segmentBytes segmentIn segmentFrom segmentSize decode listFrom
   segment-written i h = rw (segment-read bytes (limits .segmentsHigh) i h) (by (hasWays (versionIn bytes)))
     where
       by : (b : Bool) → let at = segmentStart bytes (i + 1) in

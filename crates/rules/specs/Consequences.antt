@@ -51,10 +51,11 @@ pub record Consequences (t : Table) (steps : List Step) : Type 0 where
   pub lockTold
       : (i q b : ℕ) → TrainOf t i → CrossesBox t i (whereIs t steps i) q b → (s : Step) → s .kind ≡ 3 → s .box ≡ 0 → TrainOf t (s .train)
       → trainAt (reached t steps) (s .train) .message ≡ Sent (Lock b) → step (reached t steps) s .code ≡ 24
-  -- No train covers a segment against its way: it stands on none at the start, and enters none.
+  -- No train covers a segment against its way, neither at the start nor by entering it: what runs from A to B only (1) is covered in
+  -- direction 0, what runs from B to A only (2) in direction 1.
   pub along
       : (i : ℕ) → TrainOf t i → (q : ℕ) → Covers (whereIs t steps i) q
-      → runsAgainst (trainPlanAt t i .direction) (wayOf t (onRoute t i q)) ≡ false
+      → (wayOf t (onRoute t i q) ≡ 1 → trainPlanAt t i .direction ≡ 0) × (wayOf t (onRoute t i q) ≡ 2 → trainPlanAt t i .direction ≡ 1)
   -- A reservation of a segment against its way is answered 31.
   pub wayTold
       : (s : Step) (b : ℕ) → s .kind ≡ 3 → s .box ≡ 0 → TrainOf t (s .train)

@@ -70,15 +70,14 @@ trainStart bytes i = trainsFrom bytes (i - 1)
 unfoldable pub fileLength : List ℕ → ℕ
 fileLength bytes = trainsFrom bytes (trainCount bytes)
 
+-- The segment whose record of a version begins at a place. In version 1 it has no way byte, and runs both ways.
+unfoldable pub segmentFrom : List ℕ → ℕ → ℕ → Segment
+segmentFrom bytes version at =
+    record { a = byteAt bytes at; b = byteAt bytes (at + 1); way = cond (hasWays version) (byteAt bytes (at + 2)) 0 }
+
 -- The records of the file. Places of the arrays beyond them are 0.
 unfoldable pub segmentIn : List ℕ → ℕ → Segment
-segmentIn bytes s =
-    let at = segmentStart bytes s in
-    record {
-      a = byteAt bytes at;
-      b = byteAt bytes (at + 1);
-      way = cond (hasWays (versionIn bytes)) (byteAt bytes (at + 2)) 0;
-    }
+segmentIn bytes s = segmentFrom bytes (versionIn bytes) (segmentStart bytes s)
 
 unfoldable pub planIn : List ℕ → ℕ → BoxPlan
 planIn bytes b =

@@ -1,4 +1,5 @@
--- Cases of files beside 01's own: for each code 2 to 12, 26 and 28 and each condition behind it, and for the order of the codes.
+-- Cases of files beside 01's own: for each code 2 to 12, 26 and 28 and each condition behind it, and for the order of the codes. Those of
+-- version 2 are in OneWayCases.
 use Prim.Native.Nat.{ℕ, _+_, _-_, _*_, _/_}
 use mathlib.Core.List.{List, [], _∷_, _++_}
 use lib.ListN.{set, take, replicate}

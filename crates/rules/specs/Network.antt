@@ -17,7 +17,7 @@ knownVersion v = eqb v 1 || eqb v 2
 unfoldable pub hasWays : ℕ → Bool
 hasWays v = leb 2 v
 
--- Some of n segments runs one way only.
+-- Some of n segments has a way other than 0: it runs one way only, or its way is none (code 6).
 unfoldable pub someOneWay : ℕ → (ℕ → ℕ) → Bool
 someOneWay n way = anyOf n (λ s. not (eqb (way s) 0))
 
@@ -29,7 +29,7 @@ waysFault v n way = not (hasWays v) && someOneWay n way
 unfoldable pub limitsFault : ℕ → ℕ → ℕ → Bool
 limitsFault n m k = outside 96 n || (ltb m 2 || ltb 96 m) || ltb 16 k
 
--- Code 6: an end box 0 or above m, or both ends one box.
+-- Code 6 at the ends of segment s: an end box 0 or above m, or both ends one box.
 unfoldable pub endsFault : ℕ → Track → ℕ → Bool
 endsFault m track s = outside m (track .endA s) || outside m (track .endB s) || eqb (track .endA s) (track .endB s)
 

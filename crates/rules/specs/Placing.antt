@@ -51,8 +51,8 @@ unfoldable pub startFault : List ℕ → ℕ → Bool
 startFault routes i = anyOf (i - 1) (λ j. eqb (routeAt routes i 1) (routeAt routes j 1))
 
 -- Code 32 at train i: it starts against the way of its first segment.
-unfoldable pub againstFaultAt : (ℕ → ℕ) → List TrainPlan → List ℕ → ℕ → Bool
-againstFaultAt way trains routes i = runsAgainst (nth trains i noTrainPlan .direction) (way (routeAt routes i 1))
+unfoldable pub startAgainstAt : (ℕ → ℕ) → List TrainPlan → List ℕ → ℕ → Bool
+startAgainstAt way trains routes i = runsAgainst (nth trains i noTrainPlan .direction) (way (routeAt routes i 1))
 
 -- Codes 10, and 11 with 28, at train i, by its plan among those of all trains.
 unfoldable pub shapeFaultAt : List TrainPlan → ℕ → Bool
@@ -81,7 +81,7 @@ placingRows n k track way trains routes =
     10 if anyOf k (shapeFaultAt trains)
     ∷ found if not (eqb found 0)
     ∷ 12 if anyOf k (startFault routes)
-    ∷ 32 if anyOf k (againstFaultAt way trains routes)
+    ∷ 32 if anyOf k (startAgainstAt way trains routes)
     ∷ []
 
 -- What comes after a table's head, over the table's parts and for a table: codes 6 to 12, 28 and 32. The reader puts code 5 before it.

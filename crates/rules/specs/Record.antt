@@ -39,7 +39,7 @@ messageFault v r (Lost q) = addressFault v r q
 
 -- Train i with record r, on n segments of a track with these ways, where `point` says which boxes are points and `routes` has the routes
 -- as they stand: its route fails 10, 11 or 28; the train is outside its route, its tail included; it covers no segment or more than it
--- may; or its message is at fault.
+-- may; or its message is at fault. The ways decide nothing here: 32 is asked of the table alone, and 16 and 17 do not look at them.
 unfoldable pub trainFault : ℕ → Track → (ℕ → ℕ) → (ℕ → Bool) → List ℕ → ℕ → Train → Bool
 trainFault n track way point routes i r =
     routeShapeFault (r .direction) (r .length)

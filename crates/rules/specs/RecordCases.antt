@@ -1,4 +1,5 @@
--- Cases on records made up by hand: for each condition of the record check, 27, and steps on records that no steps reach.
+-- Cases on records made up by hand: for each condition of the record check, 27, and steps on records that no steps reach. Those about the
+-- ways of segments are in OneWayCases.
 use Prim.Native.Nat.{ℕ}
 use mathlib.Core.Bool.{Bool, true, false}
 use mathlib.Core.List.{List, [], _∷_, _++_}

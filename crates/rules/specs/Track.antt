@@ -1,5 +1,5 @@
--- The track of a table (01, "The line"): what stands at a number, the ends of a segment, the direction of travel, and the
--- segments that a box joins.
+-- The track of a table (01, "The line"; 02, ticket 6): what stands at a number, the ends of a segment, the direction of travel, the way of
+-- a segment, and the segments that a box joins.
 use Prim.Native.Nat.{ℕ, zero, suc, _+_, _*_}
 use mathlib.Core.Bool.{Bool, cond, _&&_, _||_}
 use mathlib.Core.List.{List}
@@ -38,8 +38,8 @@ routeAt routes (suc i) zero = 0
 routeAt routes (suc i) (suc p) = cond (ltb p 64) (getD routes (64 * i + p) 0) 0
 
 -- The boxes at the A end and at the B end of each segment, by its number. The conditions on a table, the start of a line, what
--- stands around a train and the record check are stated over these two functions, so that they hold for a table and for any other
--- form in which a program keeps the ends.
+-- stands around a train and the record check are stated over these two functions and over the ways of segments below, so that they hold
+-- for a table and for any other form in which a program keeps them.
 pub record Track : Type 0 where
   pub endA : ℕ → ℕ
   pub endB : ℕ → ℕ
@@ -83,7 +83,7 @@ wayOf t = wayBy (t .segments)
 abbrev pub wayIn : List ℕ → ℕ → ℕ
 wayIn l s = getD l s 0
 
--- A train of direction d runs against a segment of this way: from A to B (direction 0) where it runs from B to A only, and the reverse.
+-- A train of direction d runs against a segment of this way: direction 0, from A to B, where the way is 2; 1 and any other where it is 1.
 unfoldable pub runsAgainst : ℕ → ℕ → Bool
 runsAgainst d way = cond (eqb d 0) (eqb way 2) (eqb way 1)
 

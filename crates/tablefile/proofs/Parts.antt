@@ -10,13 +10,13 @@ use lib.ListN.{length, getD, take, drop, replicate}
 use lib.Seq.{sets}
 use Rattle.rules.specs.Network.{hasWays}
 use Rattle.rules.specs.File.{decode, segmentSize, boxSize, trainSize, byteAt, versionIn, segmentCount, boxCount, trainCount}
-use Rattle.rules.specs.File.{segmentStart, boxStart, trainsFrom, trainStart, fileLength, segmentIn, planIn, trainPlanIn, routeIn}
+use Rattle.rules.specs.File.{segmentStart, boxStart, trainsFrom, trainStart, fileLength, segmentFrom, segmentIn, planIn, trainPlanIn, routeIn}
 use Rattle.rules.specs.Rows.{filled}
 use Rattle.rules.proofs.Rows.{join-none, filled-none}
 use Rattle.rules.specs.declared.Segment.{Segment}
 use Rattle.rules.specs.declared.BoxPlan.{BoxPlan}
 use Rattle.rules.specs.declared.TrainPlan.{TrainPlan}
-use Rattle.tablefile.specs.Whole.{Whole, segmentFrom, segmentsOf, boxesOf, trainsOf, routesUpTo, routesOf}
+use Rattle.tablefile.specs.Whole.{Whole, segmentsOf, boxesOf, trainsOf, routesUpTo, routesOf}
 use Rattle.tablefile.specs.Places.{AtBoxes, Counts, Headed}
 use Rattle.tablefile.proofs.Fill.{join-set}
 
@@ -127,7 +127,7 @@ module _ (bytes : List ℕ) where
   -- The records of the file, by the place at which they begin: the bytes that they are read from.
   pub segment-in : (version i at : ℕ) (s : Segment) → version ≡ versionIn bytes → at ≡ segmentStart bytes (i + 1)
       → s ≡ segmentFrom bytes version at → s ≡ segmentIn bytes (i + 1)
-  unfolding segmentIn segmentFrom
+  unfolding segmentIn
   segment-in version i at s e f is = rw (e, f) at is
 
   pub plan-in : (from i : ℕ) →

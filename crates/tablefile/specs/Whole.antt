@@ -1,5 +1,5 @@
 -- A whole file, its arrays, codes 1 to 5, and what is decided of a file.
-use Prim.Native.Nat.{ℕ, _+_, _≤_}
+use Prim.Native.Nat.{ℕ, _≤_}
 use mathlib.Core.Bool.{cond}
 use mathlib.Core.List.{List}
 use mathlib.Core.Path.{_≡_}
@@ -11,8 +11,7 @@ use Rattle.rules.specs.declared.BoxPlan.{BoxPlan}
 use Rattle.rules.specs.declared.TrainPlan.{TrainPlan}
 use Rattle.rules.specs.Rows.{first, listOf, joinOf, filled}
 use Rattle.rules.specs.Track.{noSegment, noBoxPlan, noTrainPlan}
-use Rattle.rules.specs.Network.{hasWays}
-use Rattle.rules.specs.File.{byteAt, segmentCount, boxCount, trainCount, fileLength, earlyRows, fileRefusal, decode}
+use Rattle.rules.specs.File.{segmentCount, boxCount, trainCount, fileLength, earlyRows, fileRefusal, decode}
 use Rattle.rules.specs.File.{segmentIn, planIn, trainPlanIn, routeIn}
 use Rattle.rules.specs.Line.{emptyTable}
 use Rattle.tablefile.specs.declared.FileTable.{FileTable}
@@ -27,11 +26,6 @@ pub record Whole (bytes : List ℕ) : Type 0 where
   pub boxes : boxCount bytes ≤ 96
   pub trains : trainCount bytes ≤ 16
   pub exact : length bytes ≡ fileLength bytes
-
--- The segment whose record of a version begins at a place.
-unfoldable pub segmentFrom : List ℕ → ℕ → ℕ → Segment
-segmentFrom bytes version at =
-    record { a = byteAt bytes at; b = byteAt bytes (at + 1); way = cond (hasWays version) (byteAt bytes (at + 2)) 0 }
 
 -- The arrays of the table record: segments, boxes, trains, and the routes of the first j trains, 64 places a train.
 unfoldable pub segmentsOf : List ℕ → List Segment

@@ -8,8 +8,8 @@ ghost use Prim.Native.Nat.{_+_, _*_, _≤_, _<_, _^_, min};
 ghost use lib.Dec.{eqb};
 ghost use lib.ListN.{length, take, drop};
 ghost use lib.Seq.{sets};
-ghost use Rattle.rules.specs.File.{segmentSize, byteAt, trainsFrom};
-ghost use Rattle.tablefile.specs.Whole.{segmentFrom, segmentsOf, boxesOf, trainsOf, routesOf};
+ghost use Rattle.rules.specs.File.{segmentSize, byteAt, trainsFrom, segmentFrom};
+ghost use Rattle.tablefile.specs.Whole.{segmentsOf, boxesOf, trainsOf, routesOf};
 ghost use Rattle.tablefile.specs.Places.{AtSegments, AtBoxes, AtTrains, TrainsAt};
 ghost use Rattle.tablefile.specs.Part.{RestOf};
 

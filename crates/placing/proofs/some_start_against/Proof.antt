@@ -4,13 +4,13 @@ use native.Mathlib.Omega.{arith}
 use borrow.Author.Needs.{needs}
 use Rattle.rules.proofs.Rows.{NoneYet, none-start, none-turn, none-found, none-done}
 use Rattle.rules.specs.Track.{wayIn}
-use Rattle.rules.specs.Placing.{againstFaultAt}
+use Rattle.rules.specs.Placing.{startAgainstAt}
 use Rattle.placing.proofs.Routes.{against-answer}
 use Rattle.placing.proofs.some_start_against.Statement.{statement}
 use Rattle.placing.proofs.some_start_against.Tie as tie
 
 abbrev Inv-loop : tie.InvT-loop
-Inv-loop k routes ways trains number₀ number = NoneYet k (againstFaultAt (wayIn ways) trains routes) number
+Inv-loop k routes ways trains number₀ number = NoneYet k (startAgainstAt (wayIn ways) trains routes) number
 
 abbrev μ-loop : tie.MeasureT-loop
 μ-loop k routes ways trains number₀ number = k - number

@@ -54,8 +54,8 @@ going ρ callee = record {
       ∷ local (tyInt w8) valueLocal ∷ local (T′.mir erased) valueLocal ∷ [];
   body =
       seq (
-        call #behind-trains
-        (copy (place 1 []) ∷ copy (place 2 []) ∷ copy (place 3 []) ∷ copy (place 4 []) ∷ copy (place 5 []) ∷ []) (place 6 [])
+      call #behind-trains
+      (copy (place 1 []) ∷ copy (place 2 []) ∷ copy (place 3 []) ∷ copy (place 4 []) ∷ copy (place 5 []) ∷ []) (place 6 [])
       )
       (seq (call callee (copy (place 6 []) ∷ []) (place 0 [])) return);
 }

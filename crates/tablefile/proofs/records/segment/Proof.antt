@@ -4,8 +4,7 @@ use mathlib.Core.Bool.{true, false}
 use native.Mathlib.Omega.{arith}
 use borrow.Author.Needs.{needs}
 use Rattle.rules.specs.Network.{hasWays}
-use Rattle.rules.specs.File.{byteAt}
-use Rattle.tablefile.specs.Whole.{segmentFrom}
+use Rattle.rules.specs.File.{byteAt, segmentFrom}
 use Rattle.tablefile.proofs.Parts.{size-low, size-wide}
 use Rattle.tablefile.proofs.records.segment.Statement.{statement}
 use Rattle.tablefile.proofs.records.segment.Tie as tie

@@ -12,7 +12,7 @@ use rules::Refusal;
 use rules::Table;
 use std::num::wrapping_add_u8;
 
-// Room for each file of a corpus. A file that is not refused for its length has at most 4,792 bytes.
+// Room for each file of a corpus. A file that is not refused for its length has at most 4,888 bytes.
 const LONGEST: usize = 4800;
 
 // Decides a file. A refused file's line has the reader's refusal alone, an accepted one's also the writer's answers and the routes.

@@ -55,13 +55,14 @@ fn change_head(mut table: Table, field: u8, value: u8) -> Table {
     table
 }
 
-// A segment's A end and B end.
+// A segment's A end, B end and way.
 fn change_segment(mut table: Table, index: usize, field: u8, value: u8) -> Table {
     if index < 96 {
         let mut s = table.segments[index];
         match field {
             0 => s.a = value,
             1 => s.b = value,
+            2 => s.way = value,
             _ => {}
         }
         table.segments[index] = s;

@@ -4,7 +4,7 @@ use rules::Request;
 use rules::Train;
 use traincomputer::sight;
 ghost use mathlib.Core.Path.{_≡_};
-ghost use Rattle.rules.specs.Track.{trackIn, pointIn};
+ghost use Rattle.rules.specs.Track.{trackIn, wayIn, pointIn};
 ghost use Rattle.rules.specs.Record.{answerCode, addressFault, messageFault, trainFault, trainsFault};
 ghost use Rattle.traincomputer.specs.Sight.{aroundIn};
 
@@ -16,7 +16,12 @@ fn answer_code(q: Request, code: u8) -> bool
         return true;
     }
     match q {
-        Request::Reserve(_) => code == 22,
+        Request::Reserve(_) => {
+            if code == 22 {
+                return true;
+            }
+            code == 31
+        }
         Request::Lock(_) => {
             if code == 23 {
                 return true;
@@ -39,11 +44,12 @@ fn address_faulty(
     routes: &[u8; 1024],
     a: &[u8; 256],
     b: &[u8; 256],
+    ways: &[u8; 256],
     kinds: &[u8; 256],
 ) -> bool
-    ensures { λ x. ⌜ x ≡ addressFault (aroundIn (now (a .entry)) (now (b .entry)) (now (kinds .entry)) (now (routes .entry)) number r) r q ⌝ }
+    ensures { λ x. ⌜ x ≡ addressFault (aroundIn (now (a .entry)) (now (b .entry)) (now (ways .entry)) (now (kinds .entry)) (now (routes .entry)) number r) r q ⌝ }
 {
-    let v = sight::around(number, r, routes, a, b, kinds);
+    let v = sight::around(number, r, routes, a, b, ways, kinds);
     traincomputer::address_code(v, r, q) != 0
 }
 
@@ -54,26 +60,27 @@ fn message_faulty(
     routes: &[u8; 1024],
     a: &[u8; 256],
     b: &[u8; 256],
+    ways: &[u8; 256],
     kinds: &[u8; 256],
 ) -> bool
-    ensures { λ x. ⌜ x ≡ messageFault (aroundIn (now (a .entry)) (now (b .entry)) (now (kinds .entry)) (now (routes .entry)) number r) r (r .message) ⌝ }
+    ensures { λ x. ⌜ x ≡ messageFault (aroundIn (now (a .entry)) (now (b .entry)) (now (ways .entry)) (now (kinds .entry)) (now (routes .entry)) number r) r (r .message) ⌝ }
 {
     let message = r.message;
     match message {
         Message::Idle => false,
-        Message::Sent(q) => address_faulty(number, r, q, routes, a, b, kinds),
+        Message::Sent(q) => address_faulty(number, r, q, routes, a, b, ways, kinds),
         Message::Answered(q, code) => {
-            if address_faulty(number, r, q, routes, a, b, kinds) {
+            if address_faulty(number, r, q, routes, a, b, ways, kinds) {
                 return true;
             }
             !answer_code(q, code)
         }
-        Message::Lost(q) => address_faulty(number, r, q, routes, a, b, kinds),
+        Message::Lost(q) => address_faulty(number, r, q, routes, a, b, ways, kinds),
     }
 }
 
 // Code 27 at the train with this number and record, by the routes as they stand, the boxes at the A ends and at the B ends of
-// segments and the kinds of boxes. There are n segments.
+// segments, their ways and the kinds of boxes. There are n segments.
 fn train_faulty(
     number: u8,
     r: Train,
@@ -81,9 +88,10 @@ fn train_faulty(
     routes: &[u8; 1024],
     a: &[u8; 256],
     b: &[u8; 256],
+    ways: &[u8; 256],
     kinds: &[u8; 256],
 ) -> bool
-    ensures { λ x. ⌜ x ≡ trainFault n (trackIn (now (a .entry)) (now (b .entry))) (pointIn (now (kinds .entry))) (now (routes .entry)) number r ⌝ }
+    ensures { λ x. ⌜ x ≡ trainFault n (trackIn (now (a .entry)) (now (b .entry))) (wayIn (now (ways .entry))) (pointIn (now (kinds .entry))) (now (routes .entry)) number r ⌝ }
 {
     if placing::shape_faulty(r.direction, r.length) {
         return true;
@@ -107,11 +115,11 @@ fn train_faulty(
     if r.covered > 2 {
         return true;
     }
-    message_faulty(number, r, routes, a, b, kinds)
+    message_faulty(number, r, routes, a, b, ways, kinds)
 }
 
-// Code 27 at trains 1 to k, by their records, the routes as they stand, the boxes at the A ends and at the B ends of segments and
-// the kinds of boxes. There are n segments.
+// Code 27 at trains 1 to k, by their records, the routes as they stand, the boxes at the A ends and at the B ends of segments, their ways
+// and the kinds of boxes. There are n segments.
 pub fn some_train_faulty(
     n: u8,
     k: u8,
@@ -119,9 +127,10 @@ pub fn some_train_faulty(
     routes: &[u8; 1024],
     a: &[u8; 256],
     b: &[u8; 256],
+    ways: &[u8; 256],
     kinds: &[u8; 256],
 ) -> bool
-    ensures { λ x. ⌜ x ≡ trainsFault n k (trackIn (now (a .entry)) (now (b .entry))) (pointIn (now (kinds .entry))) (now (routes .entry)) trains ⌝ }
+    ensures { λ x. ⌜ x ≡ trainsFault n k (trackIn (now (a .entry)) (now (b .entry))) (wayIn (now (ways .entry))) (pointIn (now (kinds .entry))) (now (routes .entry)) trains ⌝ }
 {
     // Train 17 has no record: it reads as one with a route of length 0, which is at fault.
     if k > 16 {
@@ -132,7 +141,7 @@ pub fn some_train_faulty(
         let i = number as usize;
         number += 1;
         let r = trains[i];
-        if train_faulty(number, r, n, routes, a, b, kinds) {
+        if train_faulty(number, r, n, routes, a, b, ways, kinds) {
             return true;
         }
     }

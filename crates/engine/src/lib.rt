@@ -30,6 +30,7 @@ pub fn step(mut line: Line, kind: u8, train: u8, number: u8) -> Outcome
     let train_plans = line.table.trains;
     let a = network::far_boxes(segments, 1);
     let b = network::far_boxes(segments, 0);
+    let ways = network::ways(segments);
     let kinds = sight::kinds(plans);
     let refusal = layout::parts_refusal(
         line.table.version,
@@ -41,6 +42,7 @@ pub fn step(mut line: Line, kind: u8, train: u8, number: u8) -> Outcome
         &line.table.routes,
         &a,
         &b,
+        &ways,
     );
     if refusal.code != 0 {
         return Outcome { code: 27, line };
@@ -53,6 +55,7 @@ pub fn step(mut line: Line, kind: u8, train: u8, number: u8) -> Outcome
         &line.routes,
         &a,
         &b,
+        &ways,
         &kinds,
     ) {
         return Outcome { code: 27, line };
@@ -70,7 +73,7 @@ pub fn step(mut line: Line, kind: u8, train: u8, number: u8) -> Outcome
     }
     let i = (train - 1) as usize;
     let r = trains[i];
-    let v = sight::around(train, r, &line.routes, &a, &b, &kinds);
+    let v = sight::around(train, r, &line.routes, &a, &b, &ways, &kinds);
     let concerned = deciding::concerned(kind, v, r);
     if concerned == 0 {
         let d = deciding::decide(kind, number, v, r, deciding::no_plan(), deciding::no_box());

@@ -1,4 +1,4 @@
-// The reader: the bytes of a table file to the line at its start, or why the file is refused, by codes 1 to 12 and 28.
+// The reader: the bytes of a table file to the line at its start, or why the file is refused, by codes 1 to 12, 28 and 32.
 pub mod empty;
 mod start;
 
@@ -8,7 +8,7 @@ use tablefile::head;
 ghost use mathlib.Core.Path.{_≡_};
 ghost use Rattle.rules.specs.Line.{read};
 
-// The reader: why a file is refused, by codes 1 to 12 and 28 in their order, and the line at its start or the empty record.
+// The reader: why a file is refused, by codes 1 to 12, 28 and 32 in their order, and the line at its start or the empty record.
 pub fn read(bytes: &[u8]) -> FileOutcome
     ensures { λ r. ⌜ r ≡ read (now (bytes .entry)) ⌝ }
 {
@@ -25,6 +25,7 @@ pub fn read(bytes: &[u8]) -> FileOutcome
     let train_plans = table.trains;
     let a = network::far_boxes(segments, 1);
     let b = network::far_boxes(segments, 0);
+    let ways = network::ways(segments);
     let refusal = layout::parts_refusal(
         table.version,
         table.n,
@@ -35,6 +36,7 @@ pub fn read(bytes: &[u8]) -> FileOutcome
         &table.routes,
         &a,
         &b,
+        &ways,
     );
     if refusal.code != 0 {
         return FileOutcome {

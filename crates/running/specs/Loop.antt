@@ -9,15 +9,16 @@ use Rattle.rules.specs.declared.SwitchBox.{SwitchBox}
 use Rattle.rules.specs.declared.Train.{Train}
 use Rattle.rules.specs.declared.Line.{Line}
 use Rattle.rules.specs.declared.Around.{Around}
-use Rattle.rules.specs.Track.{trackOf, farBox}
+use Rattle.rules.specs.Track.{trackOf, wayOf, farBox}
 use Rattle.rules.specs.Line.{noTrain}
 use Rattle.network.specs.Column.{column}
 use Rattle.traincomputer.specs.Sight.{kindOf}
 
--- The columns of a table t: the boxes at the A ends and at the B ends of segments, and the kinds of boxes, each by number.
-pub record Columns (t : Table) (a b kinds : List ℕ) : Type 0 where
+-- The columns of a table t: the boxes at the A ends and at the B ends of segments, their ways, and the kinds of boxes, each by number.
+pub record Columns (t : Table) (a b ways kinds : List ℕ) : Type 0 where
   pub ends-a : a ≡ column (farBox (trackOf t) 1)
   pub ends-b : b ≡ column (farBox (trackOf t) 0)
+  pub ways-of : ways ≡ column (wayOf t)
   pub kinds-of : kinds ≡ column (kindOf (t .boxes))
 
 -- The line with this table and these boxes, trains and routes.
@@ -33,6 +34,7 @@ noAround =
       next = 0;
       tail = 0;
       second = 0;
+      against = false;
       ahead = 0;
       point = false;
       nearEnd = 0;

@@ -39,6 +39,7 @@ pub fn run(file: &[u8], steps: &[u8], answers: &mut [u8]) -> FileOutcome
     let plans = table.boxes;
     let a = network::far_boxes(segments, 1);
     let b = network::far_boxes(segments, 0);
+    let ways = network::ways(segments);
     let kinds = sight::kinds(plans);
     let boxes = line.boxes;
     let trains = line.trains;
@@ -51,6 +52,7 @@ pub fn run(file: &[u8], steps: &[u8], answers: &mut [u8]) -> FileOutcome
         answers,
         &a,
         &b,
+        &ways,
         &kinds,
     );
     let boxes_after = moved.boxes;

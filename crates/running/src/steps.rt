@@ -50,9 +50,10 @@ fn views(
     routes: &[u8; 1024],
     a: &[u8; 256],
     b: &[u8; 256],
+    ways: &[u8; 256],
     kinds: &[u8; 256],
 ) -> [Around; 16]
-    ensures { λ r. ⌜ Seen (aroundIn (now (a .entry)) (now (b .entry)) (now (kinds .entry)) (now (routes .entry))) trains r 16 ⌝ }
+    ensures { λ r. ⌜ Seen (aroundIn (now (a .entry)) (now (b .entry)) (now (ways .entry)) (now (kinds .entry)) (now (routes .entry))) trains r 16 ⌝ }
 {
     let mut all = [Around {
         number: 0,
@@ -60,6 +61,7 @@ fn views(
         next: 0,
         tail: 0,
         second: 0,
+        against: false,
         ahead: 0,
         point: false,
         nearEnd: 0,
@@ -70,7 +72,7 @@ fn views(
     while number < 16 {
         let i = number as usize;
         number += 1;
-        let v = around(number, trains[i], routes, a, b, kinds);
+        let v = around(number, trains[i], routes, a, b, ways, kinds);
         all[i] = v;
     }
     all
@@ -88,16 +90,17 @@ pub(crate) fn advance(
     answers: &mut [u8],
     a: &[u8; 256],
     b: &[u8; 256],
+    ways: &[u8; 256],
     kinds: &[u8; 256],
 ) -> Moved
     requires { ⌜ stepCount (now steps) ≤ length (now answers) ⌝ }
-    requires { ⌜ Columns table (now a) (now b) (now kinds) ⌝ }
+    requires { ⌜ Columns table (now a) (now b) (now ways) (now kinds) ⌝ }
     requires { ⌜ StaysSound (standing table boxes trains (now routes)) ⌝ }
     ensures { λ r. ⌜ standing table (r .boxes) (r .trains) (now (routes .entry)) ≡ lineAfter step (standing table boxes trains (now (routes .entry))) (wholeSteps (now (steps .entry))) ⌝ }
     ensures { λ r. ⌜ now (answers .exit) ≡ answersFrom step (standing table boxes trains (now (routes .entry))) (now (steps .entry)) ++ drop (stepCount (now (steps .entry))) (now (answers .entry)) ⌝ }
 {
     let k = table.k;
-    let mut seen = views(trains, routes, a, b, kinds);
+    let mut seen = views(trains, routes, a, b, ways, kinds);
     let whole = steps.len() / 3;
     let mut n: usize = 0;
     while n < whole {
@@ -148,7 +151,7 @@ pub(crate) fn advance(
                             answers[index] = code;
                             trains[i] = train_after;
                             boxes[j] = box_after;
-                            let anew = around(train, train_after, routes, a, b, kinds);
+                            let anew = around(train, train_after, routes, a, b, ways, kinds);
                             seen[i] = anew;
                         }
                     }
@@ -165,7 +168,7 @@ pub(crate) fn advance(
                             answers[index] = code;
                             trains[i] = train_after;
                             boxes[j] = box_after;
-                            let anew = around(train, train_after, routes, a, b, kinds);
+                            let anew = around(train, train_after, routes, a, b, ways, kinds);
                             seen[i] = anew;
                         }
                     }

@@ -67,10 +67,13 @@ fn another(i: u8, holder: u8) -> bool
     holder != i
 }
 
-// Code 22 of a reservation, whatever the box's number.
+// Codes 31 and 22 of a reservation, whatever the box's number.
 fn reserve_code(v: Around, p: BoxPlan, x: SwitchBox) -> u8
     ensures { λ c. ⌜ ((b : ℕ) → c ≡ first (grantRows v p x (NextAt b))) ⌝ }
 {
+    if v.against {
+        return 31;
+    }
     if another(v.number, holder_of(p, x, v.next)) {
         return 22;
     }

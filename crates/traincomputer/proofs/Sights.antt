@@ -10,7 +10,7 @@ use Rattle.rules.specs.declared.BoxPlan.{BoxPlan}
 use Rattle.rules.specs.declared.Train.{Train}
 use Rattle.rules.specs.declared.Around.{Around}
 use Rattle.rules.specs.Rows.{nth}
-use Rattle.rules.specs.Track.{noBoxPlan, routeAt, Track, farBox, nearBox}
+use Rattle.rules.specs.Track.{noBoxPlan, routeAt, Track, runsAgainst, farBox, nearBox}
 use Rattle.rules.specs.Line.{aroundOn}
 use Rattle.rules.proofs.Tests.{cond-same}
 use Rattle.rules.proofs.Rows.{nth-at, nth-past}
@@ -31,7 +31,7 @@ module _ (plans : List BoxPlan) where
   kind-at i = ap (λ (p : BoxPlan). p .kind) (sym (nth-at plans i noBoxPlan))
 
 -- What stands around a train, from its parts.
-pub around-of : (track : Track) (points : ℕ → Bool) (routes : List ℕ) (i : ℕ) (r : Train) (v : Around) (p q : ℕ)
+pub around-of : (track : Track) (way : ℕ → ℕ) (points : ℕ → Bool) (routes : List ℕ) (i : ℕ) (r : Train) (v : Around) (p q : ℕ)
     → v .number ≡ i
     → v .front ≡ routeAt routes i (r .place)
     → v .next ≡ routeAt routes i (r .place + 1)
@@ -39,12 +39,13 @@ pub around-of : (track : Track) (points : ℕ → Bool) (routes : List ℕ) (i :
     → v .tail ≡ routeAt routes i p
     → q ≡ r .place + 2 - r .covered
     → v .second ≡ routeAt routes i q
+    → v .against ≡ runsAgainst (r .direction) (way (v .next))
     → v .ahead ≡ farBox track (r .direction) (v .front)
     → v .point ≡ points (v .ahead)
     → v .nearEnd ≡ nearBox track (r .direction) (v .next)
     → v .farEnd ≡ farBox track (r .direction) (v .next)
     → v .passed ≡ farBox track (r .direction) (v .tail)
-    → v ≡ aroundOn track points routes i r
+    → v ≡ aroundOn track way points routes i r
 unfolding aroundOn
-around-of track points routes i r v p q number front next e tail f second ahead point nearEnd farEnd passed =
-    rw (← front, ← next, ← e, ← tail, ← f, ← second, ← ahead, ← point, ← nearEnd, ← farEnd, ← passed, ← number)
+around-of track way points routes i r v p q number front next e tail f second against ahead point nearEnd farEnd passed =
+    rw (← front, ← next, ← e, ← tail, ← f, ← second, ← against, ← ahead, ← point, ← nearEnd, ← farEnd, ← passed, ← number)

@@ -46,16 +46,17 @@ fn back(p: usize, covered: u8) -> usize
 }
 
 // What stands around the train with this number and record: by the routes in force, and by the boxes at the A ends and the B ends
-// of segments and the kinds of boxes, each by its number.
+// of segments, the ways of segments and the kinds of boxes, each by its number.
 pub fn around(
     number: u8,
     r: Train,
     routes: &[u8; 1024],
     a: &[u8; 256],
     b: &[u8; 256],
+    ways: &[u8; 256],
     kinds: &[u8; 256],
 ) -> Around
-    ensures { λ v. ⌜ v ≡ aroundIn (now (a .entry)) (now (b .entry)) (now (kinds .entry)) (now (routes .entry)) number r ⌝ }
+    ensures { λ v. ⌜ v ≡ aroundIn (now (a .entry)) (now (b .entry)) (now (ways .entry)) (now (kinds .entry)) (now (routes .entry)) number r ⌝ }
 {
     let d = r.direction;
     let place = r.place as usize;
@@ -63,6 +64,7 @@ pub fn around(
     let next = segment_at(routes, number, place + 1);
     let tail = segment_at(routes, number, back(place + 1, r.covered));
     let second = segment_at(routes, number, back(place + 2, r.covered));
+    let against = network::runs_against(d, ways[next as usize]);
     let ahead = far(d, front, a, b);
     let point = kinds[ahead as usize] == 2;
     let nearEnd = near(d, next, a, b);
@@ -74,6 +76,7 @@ pub fn around(
         next,
         tail,
         second,
+        against,
         ahead,
         point,
         nearEnd,

@@ -7,11 +7,17 @@ use Rattle.switchbox.proofs.reserve_code.Tie as tie
 
 returns : tie.Need-returns
 unfolding first grantRows
-returns c b = rw (← c .before .before .holder-of .ensures, ← c .before .another .ensures, c .if1 .taken)
+returns c b = rw (c .if1 .taken)
 
 returns-2 : tie.Need-returns-2
 unfolding first grantRows
-returns-2 c b = rw (← c .before .before .holder-of .ensures, ← c .before .another .ensures, c .if1 .left)
+returns-2 c b =
+    rw (c .before .before .before .if1 .left, ← c .before .before .holder-of .ensures, ← c .before .another .ensures, c .if2 .taken)
+
+returns-3 : tie.Need-returns-3
+unfolding first grantRows
+returns-3 c b =
+    rw (c .before .before .before .if1 .left, ← c .before .before .holder-of .ensures, ← c .before .another .ensures, c .if2 .left)
 
 pub reserve-code-spec : {M : Type 1} → statement M
-reserve-code-spec = tie.close (tie.spec (λ c κs. search needs) (λ c κs. search needs) returns returns-2)
+reserve-code-spec = tie.close (tie.spec returns (λ c κs. search needs) (λ c κs. search needs) returns-2 returns-3)

@@ -10,13 +10,15 @@ returns c =
     let farEnd = c .before in
     let nearEnd = farEnd .before in
     let ahead = nearEnd .before .before in
-    let second = ahead .before in
+    let against = ahead .before in
+    let second = against .before .before in
     let secondPlace = second .before in
     let tail = secondPlace .before in
     let tailPlace = tail .before in
     let next = tailPlace .before in
     let front = next .before in
     around-of
+    _
     _
     _
     _
@@ -32,6 +34,7 @@ returns c =
     (tail .segment-at3 .ensures)
     (secondPlace .back2 .ensures)
     (second .segment-at4 .ensures)
+    (against .runs-against .ensures)
     (ahead .far .ensures)
     refl
     (nearEnd .near .ensures)
@@ -51,6 +54,9 @@ around-spec =
     (λ c κs. search needs)
     (λ c. search needs)
     (λ c κs. search needs)
+    (λ c κs. search needs)
+    (λ c. search needs)
+    (λ c. search needs)
     (λ c κs. search needs)
     (λ c κs. search needs)
     (λ c. search needs)

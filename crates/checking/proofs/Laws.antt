@@ -27,11 +27,11 @@ use Rattle.rules.proofs.Tests.{tests, is-true, or-left, or-last, not-same, answ
 use Rattle.rules.proofs.Rows.{nth-at, nth-past, none-found}
 
 -- The train and the box at index i are those of number i + 1; z is what a function answered for it, and v what a branch found.
-pub train-answer : (n : ℕ) (track : Track) (point : ℕ → Bool) (routes : List ℕ) (trains : List Train) (i : ℕ) (z v : Bool)
-    → z ≡ trainFault n track point routes (i + 1) (getD trains i noTrain)
+pub train-answer : (n : ℕ) (track : Track) (way : ℕ → ℕ) (point : ℕ → Bool) (routes : List ℕ) (trains : List Train) (i : ℕ) (z v : Bool)
+    → z ≡ trainFault n track way point routes (i + 1) (getD trains i noTrain)
     → z ≡ v
-    → trainFault n track point routes (i + 1) (nth trains (i + 1) noTrain) ≡ v
-train-answer n track point routes trains i z v e f = rw nth-at (answered _ _ _ e f)
+    → trainFault n track way point routes (i + 1) (nth trains (i + 1) noTrain) ≡ v
+train-answer n track way point routes trains i z v e f = rw nth-at (answered _ _ _ e f)
 
 pub box-answer : (k : ℕ) (plans : List BoxPlan) (boxes : List SwitchBox) (i : ℕ) (z v : Bool)
     → z ≡ switchBoxFault k (getD plans i noBoxPlan) (getD boxes i noBox)
@@ -40,11 +40,11 @@ pub box-answer : (k : ℕ) (plans : List BoxPlan) (boxes : List SwitchBox) (i : 
 box-answer k plans boxes i z v e f = rw (nth-at plans, nth-at boxes) (answered _ _ _ e f)
 
 -- More trains than there are places: train 17 has no record, and reads as one with a route of length 0, which is at fault.
-pub many-trains : (n k : ℕ) (track : Track) (point : ℕ → Bool) (routes : List ℕ) (trains : List Train) → length trains ≡ 16 → 16 < k
-    → true ≡ trainsFault n k track point routes trains
+pub many-trains : (n k : ℕ) (track : Track) (way : ℕ → ℕ) (point : ℕ → Bool) (routes : List ℕ) (trains : List Train) → length trains ≡ 16 → 16 < k
+    → true ≡ trainsFault n k track way point routes trains
 unfolding trainsFault trainFault routeShapeFault outside
-many-trains n k track point routes trains sized many =
-    none-found k (λ i. trainFault n track point routes i (nth trains i noTrain)) 16 many
+many-trains n k track way point routes trains sized many =
+    none-found k (λ i. trainFault n track way point routes i (nth trains i noTrain)) 16 many
     (rw (nth-past trains 17 noTrain (omega arith)) (search tests))
 
 -- Codes of an answer: 0, those of a reservation, those of a lock.
@@ -56,7 +56,7 @@ answer-zero (GiveBack b) c e = search tests
 answer-zero (Unlock b) c e = search tests
 
 module _ (q : Request) (b c : ℕ) (z : Bool) where
-  pub answer-reserved : q ≡ Reserve b → (c ≡ 0 → ⊥) → z ≡ eqb c 22 → z ≡ answerCode q c
+  pub answer-reserved : q ≡ Reserve b → (c ≡ 0 → ⊥) → z ≡ (eqb c 22 || eqb c 31) → z ≡ answerCode q c
   unfolding answerCode
   answer-reserved e n f = rw (e, ne-eqb c 0 n) f
 
@@ -95,9 +95,9 @@ module _ (v : Around) (r : Train) (g : Message) where
 
 -- A train that fails one of the tests, one by one, and one of which all but its message is fine; s, q and z are what functions
 -- answered.
-module _ (n : ℕ) (track : Track) (point : ℕ → Bool) (routes : List ℕ) (i : ℕ) (r : Train) where
+module _ (n : ℕ) (track : Track) (way : ℕ → ℕ) (point : ℕ → Bool) (routes : List ℕ) (i : ℕ) (r : Train) where
   abbrev Faulty : Type 0
-  Faulty = true ≡ trainFault n track point routes i r
+  Faulty = true ≡ trainFault n track way point routes i r
 
   pub faulty-shape : (s : Bool) → s ≡ routeShapeFault (r .direction) (r .length) → s ≡ true → Faulty
   unfolding trainFault
@@ -141,8 +141,8 @@ module _ (n : ℕ) (track : Track) (point : ℕ → Bool) (routes : List ℕ) (i
       → r .covered ≤ r .place
       → (r .covered ≡ 0 → ⊥)
       → r .covered ≤ 2
-      → z ≡ messageFault (aroundOn track point routes i r) r (r .message)
-      → z ≡ trainFault n track point routes i r
+      → z ≡ messageFault (aroundOn track way point routes i r) r (r .message)
+      → z ≡ trainFault n track way point routes i r
   unfolding trainFault
   last-message s z q e f g h placed within tail some few last =
       let shaped : routeShapeFault (r .direction) (r .length) ≡ false = answered _ _ _ e f in

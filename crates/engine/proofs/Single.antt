@@ -17,7 +17,7 @@ use Rattle.rules.specs.declared.Effect.the-variants.{Refused, Changed}
 use Rattle.rules.specs.declared.Outcome.{Outcome}
 use Rattle.rules.specs.declared.Refusal.{Refusal}
 use Rattle.rules.specs.Rows.{first, outside, setNth}
-use Rattle.rules.specs.Track.{trackIn, pointIn}
+use Rattle.rules.specs.Track.{trackIn, wayIn, pointIn}
 use Rattle.rules.specs.Line.{noTrain, around, putTrain, putBox}
 use Rattle.rules.specs.Steps.{Step, apply, formRows, step}
 use Rattle.rules.specs.Placing.{tableCode, partsRefusal}
@@ -29,29 +29,29 @@ use Rattle.rules.proofs.Steps.{form-row-iff, step-unformed, step-unknown}
 use Rattle.layout.proofs.Codes.{parts-answer}
 use Rattle.traincomputer.specs.Sight.{aroundIn}
 use Rattle.running.specs.Loop.{Columns, standing}
-use Rattle.running.proofs.Turn.{track-shown, points-shown, around-shown, Taken, Turned, train-read}
+use Rattle.running.proofs.Turn.{track-shown, ways-shown, points-shown, around-shown, Taken, Turned, train-read}
 
 -- A line whose records have their places, with the columns of its table and what refuses the table.
-pub record Coded (l : Line) (a b kinds : List ℕ) (r : Refusal) : Type 0 where
-  pub columns : Columns (l .table) a b kinds
+pub record Coded (l : Line) (a b ways kinds : List ℕ) (r : Refusal) : Type 0 where
+  pub columns : Columns (l .table) a b ways kinds
   pub segments : length (l .table .segments) ≡ 96
   pub plans : length (l .table .boxes) ≡ 96
   pub refusal
       : r
-      ≡ partsRefusal (l .table .version) (l .table .n) (l .table .m) (l .table .k) (trackIn a b) (l .table .boxes) (l .table .trains) (l .table .routes)
+      ≡ partsRefusal (l .table .version) (l .table .n) (l .table .m) (l .table .k) (trackIn a b) (wayIn ways) (l .table .boxes) (l .table .trains) (l .table .routes)
 
 -- What the check finds at the trains and at the boxes of a line.
-abbrev atTrains : Line → List ℕ → List ℕ → List ℕ → Bool
-atTrains l a b kinds = trainsFault (l .table .n) (l .table .k) (trackIn a b) (pointIn kinds) (l .routes) (l .trains)
+abbrev atTrains : Line → List ℕ → List ℕ → List ℕ → List ℕ → Bool
+atTrains l a b ways kinds = trainsFault (l .table .n) (l .table .k) (trackIn a b) (wayIn ways) (pointIn kinds) (l .routes) (l .trains)
 
 abbrev atBoxes : Line → Bool
 atBoxes l = ltb 96 (l .table .m) || switchBoxesFault (l .table .k) (l .table .m) (l .table .boxes) (l .boxes)
 
 -- All three parts of the check find nothing.
-pub record Passed (l : Line) (a b kinds : List ℕ) (r : Refusal) : Type 0 where
-  pub coded : Coded l a b kinds r
+pub record Passed (l : Line) (a b ways kinds : List ℕ) (r : Refusal) : Type 0 where
+  pub coded : Coded l a b ways kinds r
   pub table : r .code ≡ 0
-  pub trains : atTrains l a b kinds ≡ false
+  pub trains : atTrains l a b ways kinds ≡ false
   pub boxes : atBoxes l ≡ false
 
 -- A step is refused with 27 where the check finds something.
@@ -60,14 +60,14 @@ unfolding checkedStep
 refused-27 s e = rw e refl
 
 -- The code is the table's; where it is 0, the table is within its limits; and the check is its three parts.
-module _ {l : Line} {a b kinds : List ℕ} {r : Refusal} (h : Coded l a b kinds r) where
+module _ {l : Line} {a b ways kinds : List ℕ} {r : Refusal} (h : Coded l a b ways kinds r) where
   coded-table : r .code ≡ tableCode (l .table)
-  coded-table = code-of (parts-answer (l .table) r (track-shown (h .columns) (h .segments)) (h .refusal)) ∙ table-coded (l .table)
+  coded-table = code-of (parts-answer (l .table) r (track-shown (h .columns) (h .segments)) (ways-shown (h .columns) (h .segments)) (h .refusal)) ∙ table-coded (l .table)
 
   coded-limits : r .code ≡ 0 → Limits (l .table .n) (l .table .m) (l .table .k)
   coded-limits e = accepted (l .table) (sym coded-table ∙ e) .limits
 
-  by-parts : recordFault l ≡ (not (eqb (r .code) 0) || atTrains l a b kinds || atBoxes l)
+  by-parts : recordFault l ≡ (not (eqb (r .code) 0) || atTrains l a b ways kinds || atBoxes l)
   unfolding recordFault
   by-parts =
       let t = l .table in
@@ -76,7 +76,8 @@ module _ {l : Line} {a b kinds : List ℕ} {r : Refusal} (h : Coded l a b kinds 
             rw (le-ltb 96 (t .m) (coded-limits e .boxesHigh), coded-table)
             (sym (λ j.
             not (eqb (tableCode t) 0)
-            || trainsFault (t .n) (t .k) (track-shown (h .columns) (h .segments) j) (points-shown (h .columns) (h .segments) (h .plans) j) (l .routes) (l .trains)
+            || trainsFault (t .n) (t .k) (track-shown (h .columns) (h .segments) j) (ways-shown (h .columns) (h .segments) j)
+            (points-shown (h .columns) (h .segments) (h .plans) j) (l .routes) (l .trains)
             || switchBoxesFault (t .k) (t .m) (t .boxes) (l .boxes)))
         | no e ↦ rw (← coded-table, ne-eqb (r .code) 0 e)
       ]
@@ -85,14 +86,14 @@ module _ {l : Line} {a b kinds : List ℕ} {r : Refusal} (h : Coded l a b kinds 
   pub table-faulty : (s : Step) → (r .code ≡ 0 → ⊥) → record { code = 27; line = l } ≡ checkedStep l s
   table-faulty s n = refused-27 s (by-parts ∙ rw (ne-eqb (r .code) 0 n))
 
-  pub train-faulty : (s : Step) → atTrains l a b kinds ≡ true → record { code = 27; line = l } ≡ checkedStep l s
+  pub train-faulty : (s : Step) → atTrains l a b ways kinds ≡ true → record { code = 27; line = l } ≡ checkedStep l s
   train-faulty s e =
-      refused-27 s (by-parts ∙ or-left (not (eqb (r .code) 0) || atTrains l a b kinds) (atBoxes l) (or-right (not (eqb (r .code) 0)) (atTrains l a b kinds) e))
+      refused-27 s (by-parts ∙ or-left (not (eqb (r .code) 0) || atTrains l a b ways kinds) (atBoxes l) (or-right (not (eqb (r .code) 0)) (atTrains l a b ways kinds) e))
 
   pub box-faulty : (s : Step) → atBoxes l ≡ true → record { code = 27; line = l } ≡ checkedStep l s
-  box-faulty s e = refused-27 s (by-parts ∙ or-right (not (eqb (r .code) 0) || atTrains l a b kinds) (atBoxes l) e)
+  box-faulty s e = refused-27 s (by-parts ∙ or-right (not (eqb (r .code) 0) || atTrains l a b ways kinds) (atBoxes l) e)
 
-module _ {l : Line} {a b kinds : List ℕ} {r : Refusal} (h : Passed l a b kinds r) where
+module _ {l : Line} {a b ways kinds : List ℕ} {r : Refusal} (h : Passed l a b ways kinds r) where
   pub sound : recordFault l ≡ false
   sound = by-parts (h .coded) ∙ rw (eq-eqb (r .code) 0 (h .table), h .trains, h .boxes)
 
@@ -111,7 +112,7 @@ module _ {l : Line} {a b kinds : List ℕ} {r : Refusal} (h : Passed l a b kinds
 
   -- What stands around the train at index i, as looked up.
   pub single-viewed : {s : Step} {i : ℕ} → Taken (l .table) s i → (v : Around)
-      → v ≡ aroundIn a b kinds (l .routes) (s .train) (getD (l .trains) i noTrain) → v ≡ around l (s .train)
+      → v ≡ aroundIn a b ways kinds (l .routes) (s .train) (getD (l .trains) i noTrain) → v ≡ around l (s .train)
   unfolding around
   single-viewed {s} {i} w v e =
       rw (around-shown (h .coded .columns) (h .coded .segments) (h .coded .plans) (l .routes), train-read l s i sound w) at e

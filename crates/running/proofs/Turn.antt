@@ -17,7 +17,7 @@ use Rattle.rules.specs.declared.Effect.{Effect}
 use Rattle.rules.specs.declared.Effect.the-variants.{Refused, Changed}
 use Rattle.rules.specs.declared.Outcome.{Outcome}
 use Rattle.rules.specs.Rows.{first, outside, nth, setNth}
-use Rattle.rules.specs.Track.{noBoxPlan, planAt, trackOf, trackIn, pointAt, pointIn}
+use Rattle.rules.specs.Track.{noBoxPlan, planAt, trackOf, trackIn, wayOf, wayIn, pointAt, pointIn}
 use Rattle.rules.specs.Line.{noBox, noTrain, aroundOn, aroundTrain, around, boxAt, trainAt, putTrain, putBox, messageBox}
 use Rattle.rules.specs.Steps.{Step, apply, enter, clear, boxAnswers, alone, formed, formRows, concernedBox, effect, step}
 use Rattle.rules.specs.Record.{recordFault}
@@ -30,24 +30,27 @@ use Rattle.rules.proofs.Checked.{sound-here, sound-next}
 use Rattle.rules.proofs.Settled.{around-alike}
 use Rattle.rules.proofs.Staying.{Stays, stays-alike}
 use Rattle.rules.proofs.Concerned.{ahead-there, passed-there, asked-there, concerned-there, unasked, box-room, train-room}
-use Rattle.network.proofs.Tracks.{track-made}
+use Rattle.network.proofs.Tracks.{track-made, ways-made}
 use Rattle.traincomputer.specs.Sight.{aroundIn}
 use Rattle.traincomputer.proofs.Points.{column-points}
 use Rattle.running.specs.Loop.{Columns, standing, Seen, noAround}
 use Rattle.running.proofs.Running.{Running, stepAt, running-turn, running-room}
 use Rattle.running.proofs.Views.{seen-moved, seen-stays}
 
--- What the columns of a table show: its track, its points, and what stands around its trains.
-module _ {t : Table} {a b kinds : List ℕ} (h : Columns t a b kinds) (segments : length (t .segments) ≡ 96) where
+-- What the columns of a table show: its track, the ways of its segments, its points, and what stands around its trains.
+module _ {t : Table} {a b ways kinds : List ℕ} (h : Columns t a b ways kinds) (segments : length (t .segments) ≡ 96) where
   pub track-shown : trackIn a b ≡ trackOf t
   track-shown = track-made (t .segments) segments (h .ends-a) (h .ends-b)
+
+  pub ways-shown : wayIn ways ≡ wayOf t
+  ways-shown = ways-made (t .segments) segments (h .ways-of)
 
   module _ (plans : length (t .boxes) ≡ 96) where
     pub points-shown : pointIn kinds ≡ pointAt t
     points-shown = rw (h .kinds-of) (column-points t plans)
 
-    pub around-shown : (routes : List ℕ) → aroundIn a b kinds routes ≡ aroundTrain t routes
-    around-shown routes = λ j. aroundOn (track-shown j) (points-shown j) routes
+    pub around-shown : (routes : List ℕ) → aroundIn a b ways kinds routes ≡ aroundTrain t routes
+    around-shown routes = λ j. aroundOn (track-shown j) (ways-shown j) (points-shown j) routes
 
 -- A step that 13 and 14 do not stop, of the train at index i.
 pub record Taken (t : Table) (s : Step) (i : ℕ) : Type 0 where
@@ -113,17 +116,17 @@ module _ (l : Line) (s : Step) (i : ℕ) (sound : recordFault l ≡ false) (w : 
 
 -- What holds between two turns: the line is sound, there is room for all answers, what stands around each train is kept, and n steps
 -- are taken.
-pub record Between (a b kinds routes : List ℕ) (t : Table) (l₀ : Line) (bytes before : List ℕ) (boxes : List SwitchBox) (trains : List Train) (seen : List Around)
+pub record Between (a b ways kinds routes : List ℕ) (t : Table) (l₀ : Line) (bytes before : List ℕ) (boxes : List SwitchBox) (trains : List Train) (seen : List Around)
     (answers : List ℕ) (n : ℕ) : Type 0 where
-  pub shown : aroundIn a b kinds routes ≡ aroundTrain t routes
+  pub shown : aroundIn a b ways kinds routes ≡ aroundTrain t routes
   pub sound : StaysSound (standing t boxes trains routes)
   pub places : length trains ≡ 16
   pub looked : Seen (aroundTrain t routes) trains seen 16
   pub room : stepCount bytes ≤ length answers
   pub running : Running step l₀ bytes before (standing t boxes trains routes) answers n
 
-module _ {a b kinds routes : List ℕ} {t : Table} {l₀ : Line} {bytes before : List ℕ} {boxes : List SwitchBox} {trains : List Train} {seen : List Around}
-    {answers : List ℕ} {n : ℕ} (h : Between a b kinds routes t l₀ bytes before boxes trains seen answers n) (more : n < length bytes / 3) where
+module _ {a b ways kinds routes : List ℕ} {t : Table} {l₀ : Line} {bytes before : List ℕ} {boxes : List SwitchBox} {trains : List Train} {seen : List Around}
+    {answers : List ℕ} {n : ℕ} (h : Between a b ways kinds routes t l₀ bytes before boxes trains seen answers n) (more : n < length bytes / 3) where
   abbrev here : Line
   here = standing t boxes trains routes
 
@@ -132,7 +135,7 @@ module _ {a b kinds routes : List ℕ} {t : Table} {l₀ : Line} {bytes before :
 
   -- What holds after the turn, with code c.
   abbrev Next : List SwitchBox → List Train → List Around → ℕ → Type 0
-  Next boxes′ trains′ seen′ c = Between a b kinds routes t l₀ bytes before boxes′ trains′ seen′ (set answers n c) (n + 1)
+  Next boxes′ trains′ seen′ c = Between a b ways kinds routes t l₀ bytes before boxes′ trains′ seen′ (set answers n c) (n + 1)
 
   pub line-sound : recordFault here ≡ false
   line-sound = sound-here here (h .sound)
@@ -140,7 +143,7 @@ module _ {a b kinds routes : List ℕ} {t : Table} {l₀ : Line} {bytes before :
   -- A turn whose code and line are those of the step.
   turn-to : (c : ℕ) (boxes′ : List SwitchBox) (trains′ : List Train) (seen′ : List Around) → length trains′ ≡ 16 → Seen (aroundTrain t routes) trains′ seen′ 16
       → record { code = c; line = standing t boxes′ trains′ routes } ≡ step here taken
-      → Between a b kinds routes t l₀ bytes before boxes′ trains′ seen′ (set answers n c) (n + 1)
+      → Between a b ways kinds routes t l₀ bytes before boxes′ trains′ seen′ (set answers n c) (n + 1)
   turn-to c boxes′ trains′ seen′ places looked e =
       let line : step here taken .line ≡ standing t boxes′ trains′ routes = sym (ap (λ (o : Outcome). o .line) e) in
       record {
@@ -261,7 +264,7 @@ module _ {a b kinds routes : List ℕ} {t : Table} {l₀ : Line} {bytes before :
     turn-alone z e s = turn-to _ _ _ _ (changed-places _) (stays s e) (rw e at (z .is))
 
     pub turn-moved : {j c : ℕ} {d : Effect} {r : Train} {x : SwitchBox} → Turned here taken i (suc j) d → d ≡ Changed c r x
-        → (v : Around) → v ≡ aroundIn a b kinds routes (taken .train) r
+        → (v : Around) → v ≡ aroundIn a b ways kinds routes (taken .train) r
         → Next (set boxes j x) (set trains i r) (set seen i v) c
     unfolding apply putTrain putBox setNth
     turn-moved z e v v-is =

@@ -24,7 +24,7 @@ plans-sized c = search (needs, length-mapped, c .good .0 .1 .1 .0)
 
 -- The start of the call, and the step that is asked for.
 abbrev start : tie.After-parts-refusal → tie.Start
-start c = c .before .before .before .before .before .before .before .before .before .before .before
+start c = c .before .before .before .before .before .before .before .before .before .before .before .before .before
 
 abbrev asked : tie.After-parts-refusal → Step
 asked c =
@@ -32,12 +32,20 @@ asked c =
     record { kind = args .kind; train = args .train; box = args .number }
 
 coded : (c : tie.After-parts-refusal)
-    → let kinds = c .before .before .before .before .before in
-    Coded (start c .args .t1) (kinds .before .before .far-boxes .result) (kinds .before .far-boxes2 .result) (kinds .kinds .result) (c .parts-refusal .result)
+    → let kinds = c .before .before .before .before .before .before in
+    let ways = kinds .before in
+    Coded (start c .args .t1) (ways .before .before .far-boxes .result) (ways .before .far-boxes2 .result) (ways .ways .result) (kinds .kinds .result)
+    (c .parts-refusal .result)
 coded c =
-    let kinds = c .before .before .before .before .before in
+    let kinds = c .before .before .before .before .before .before in
+    let ways = kinds .before in
     record {
-      columns = record { ends-a = kinds .before .before .far-boxes .ensures; ends-b = kinds .before .far-boxes2 .ensures; kinds-of = kinds .kinds .ensures };
+      columns = record {
+        ends-a = ways .before .before .far-boxes .ensures;
+        ends-b = ways .before .far-boxes2 .ensures;
+        ways-of = ways .ways .ensures;
+        kinds-of = kinds .kinds .ensures;
+      };
       segments = segments-sized (start c);
       plans = plans-sized (start c);
       refusal = c .parts-refusal .ensures;
@@ -48,7 +56,7 @@ returns c = table-faulty (coded (c .before .before)) (asked (c .before .before))
 
 -- What was found of the table, where the trains are looked at.
 abbrev at-trains : tie.After-some-train-faulty → tie.After-parts-refusal
-at-trains c = c .before .before .before .before .before .before .before .before .before
+at-trains c = c .before .before .before .before .before .before .before .before .before .before
 
 returns-2 : tie.Need-returns-2
 returns-2 c =
@@ -66,14 +74,16 @@ checked c = at-trains (c .before .before .before .before)
 
 passed : (c : tie.Else3)
     → let table = checked c in
-    let kinds = table .before .before .before .before .before in
-    Passed (start table .args .t1) (kinds .before .before .far-boxes .result) (kinds .before .far-boxes2 .result) (kinds .kinds .result) (table .parts-refusal .result)
+    let kinds = table .before .before .before .before .before .before in
+    let ways = kinds .before in
+    Passed (start table .args .t1) (ways .before .before .far-boxes .result) (ways .before .far-boxes2 .result) (ways .ways .result) (kinds .kinds .result)
+    (table .parts-refusal .result)
 passed c =
     let boxes = c .before in
     let trains = c .before .before .before .before in
     record {
       coded = coded (at-trains trains);
-      table = trains .before .before .before .before .before .before .before .if1 .left;
+      table = trains .before .before .before .before .before .before .before .before .if1 .left;
       trains = sym (trains .some-train-faulty .ensures) ∙ c .before .before .before .if2 .left;
       boxes = sym (boxes .some-box-record-faulty .ensures) ∙ c .if3 .left;
     }
@@ -103,7 +113,7 @@ train-bounds c = train-within _ _ _ (sound (passed (c .before .before .before .b
 
 -- What stands around the train is looked up: the line and the step there, and what was found before.
 abbrev begun : tie.After-around → tie.Else5
-begun c = c .before .before .before .before .before .before .before
+begun c = c .before .before .before .before .before .before .before .before
 
 abbrev found : tie.After-around → tie.Else3
 found c = begun c .before .before .before .before
@@ -168,6 +178,7 @@ pub step-spec : {M : Type 1} → statement M
 step-spec =
     tie.close
     (tie.spec
+    (λ c κs. search needs)
     (λ c κs. search needs)
     (λ c κs. search needs)
     (λ c κs. search needs)

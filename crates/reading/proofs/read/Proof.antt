@@ -8,7 +8,7 @@ use Rattle.rules.specs.Track.{trackOf, trackIn}
 use Rattle.rules.specs.File.{fileRefusal, decode}
 use Rattle.rules.proofs.Rows.{length-mapped}
 use Rattle.rules.proofs.Refusals.{code-of}
-use Rattle.network.proofs.Tracks.{track-made}
+use Rattle.network.proofs.Tracks.{track-made, ways-made}
 use Rattle.layout.proofs.Codes.{parts-answer}
 use Rattle.tablefile.proofs.Files.{refused-early, file-whole, table-some, refused-late}
 use Rattle.reading.proofs.Begin.{start-line}
@@ -40,8 +40,11 @@ module _ (c : tie.After-table) where
 
 -- The columns are the table's track, so that what refuses its parts refuses the file.
 module _ (c : tie.After-parts-refusal) where
+  abbrev passed : tie.After-ways
+  passed = c .before .before .before .before .before .before
+
   abbrev columns : tie.After-far-boxes2
-  columns = c .before .before .before .before .before
+  columns = passed .before
 
   abbrev tabled : tie.After-table
   tabled = columns .before .before .before .before .before
@@ -52,7 +55,7 @@ module _ (c : tie.After-parts-refusal) where
   refusal-is : c .parts-refusal .result ≡ fileRefusal (file tabled)
   refusal-is =
       refused-late _ _ (tabled .before .before .early-code .ensures) (tabled .before .if1 .left) _ _ (tabled .table .ensures)
-      (parts-answer _ _ track-is (c .parts-refusal .ensures))
+      (parts-answer _ _ track-is (ways-made _ (table-sized tabled) (passed .ways .ensures)) (c .parts-refusal .ensures))
 
 returns-2 : tie.Need-returns-2
 returns-2 c = read-refused _ _ _ (refusal-is (c .before .before .before)) (c .before .if2 .taken) (c .line2 .ensures)
@@ -78,6 +81,7 @@ read-spec =
     (λ c κs. search needs)
     (λ c κs. search needs)
     returns
+    (λ c κs. search needs)
     (λ c κs. search needs)
     (λ c κs. search needs)
     (λ c κs. search needs)

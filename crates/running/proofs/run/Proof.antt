@@ -26,12 +26,18 @@ advance-requires : tie.Need-advance-requires
 unfolding stepCount
 advance-requires c κs =
     let kinds = c .before .before .before .before .before .before .before .before in
-    let enough = kinds .before .before .before .before .before .before .before in
+    let ways = kinds .before in
+    let enough = ways .before .before .before .before .before .before .before in
     let counts = enough .before in
     let read = counts .before .before .before in (
       omega (arith, enough .if2 .left, counts .count .ensures),
       (
-        record { ends-a = kinds .before .before .far-boxes .ensures; ends-b = kinds .before .far-boxes2 .ensures; kinds-of = kinds .kinds .ensures },
+        record {
+          ends-a = ways .before .before .far-boxes .ensures;
+          ends-b = ways .before .far-boxes2 .ensures;
+          ways-of = ways .ways .ensures;
+          kinds-of = kinds .kinds .ensures;
+        },
         read-sound _ _ (read .read .ensures) (counts .before .if1 .left),
       ),
     )
@@ -40,7 +46,7 @@ returns-3 : tie.Need-returns-3
 unfolding stepCount
 returns-3 c =
     let taken = c .before .before .before .before .before in
-    let enough = taken .before .before .before .before .before .before .before .before .before .before .before .before .before .before .before .before in
+    let enough = taken .before .before .before .before .before .before .before .before .before .before .before .before .before .before .before .before .before .before in
     let counts = enough .before in
     let read = counts .before .before .before in
     let args = read .before .before .before .before .args in
@@ -58,6 +64,7 @@ run-spec =
     (λ c κs. search needs)
     (λ c κs. search needs)
     returns-2
+    (λ c κs. search needs)
     (λ c κs. search needs)
     (λ c κs. search needs)
     (λ c κs. search needs)

@@ -2,7 +2,7 @@
 use Prim.Native.Nat.{_-_}
 use borrow.Author.Needs.{needs}
 use Rattle.rules.specs.Rows.{nth}
-use Rattle.rules.specs.Track.{trackIn, pointIn}
+use Rattle.rules.specs.Track.{trackIn, wayIn, pointIn}
 use Rattle.rules.specs.Line.{noTrain}
 use Rattle.rules.specs.Record.{trainFault, trainsFault}
 use Rattle.rules.proofs.Rows.{length-mapped, NoneYet, none-start, none-turn, none-found, none-done}
@@ -11,19 +11,19 @@ use Rattle.checking.proofs.trains.some_train_faulty.Statement.{statemen
 use Rattle.checking.proofs.trains.some_train_faulty.Tie as tie
 
 abbrev Inv-loop : tie.InvT-loop
-Inv-loop n k routes a b kinds trains number₀ number =
-    NoneYet k (λ i. trainFault n (trackIn a b) (pointIn kinds) routes i (nth trains i noTrain)) number
+Inv-loop n k routes a b ways kinds trains number₀ number =
+    NoneYet k (λ i. trainFault n (trackIn a b) (wayIn ways) (pointIn kinds) routes i (nth trains i noTrain)) number
 
 abbrev μ-loop : tie.MeasureT-loop
-μ-loop n k routes a b kinds trains number₀ number = k - number
+μ-loop n k routes a b ways kinds trains number₀ number = k - number
 
 returns : tie.Need-returns Inv-loop μ-loop
-returns c = many-trains _ _ _ _ _ _ (search (needs, length-mapped)) (c .if1 .taken)
+returns c = many-trains _ _ _ _ _ _ _ (search (needs, length-mapped)) (c .if1 .taken)
 
 returns-2 : tie.Need-returns-2 Inv-loop μ-loop
 unfolding trainsFault
 returns-2 c =
-    none-found _ _ _ (c .before .before .before .loop-test .taken) (train-answer _ _ _ _ _ _ _ _ (c .before .train-faulty .ensures) (c .if2 .taken))
+    none-found _ _ _ (c .before .before .before .loop-test .taken) (train-answer _ _ _ _ _ _ _ _ _ (c .before .train-faulty .ensures) (c .if2 .taken))
 
 returns-3 : tie.Need-returns-3 Inv-loop μ-loop
 unfolding trainsFault

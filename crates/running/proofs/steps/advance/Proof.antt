@@ -16,11 +16,11 @@ use Rattle.running.proofs.steps.advance.Statement.{statement}
 use Rattle.running.proofs.steps.advance.Tie as tie
 
 abbrev Inv-loop : tie.InvT-loop
-Inv-loop routes steps answers₀ a b kinds table boxes₀ trains₀ k seen₀ whole n₀ answers boxes trains seen n =
-    Between a b kinds routes table (standing table boxes₀ trains₀ routes) steps answers₀ boxes trains seen answers n
+Inv-loop routes steps answers₀ a b ways kinds table boxes₀ trains₀ k seen₀ whole n₀ answers boxes trains seen n =
+    Between a b ways kinds routes table (standing table boxes₀ trains₀ routes) steps answers₀ boxes trains seen answers n
 
 abbrev μ-loop : tie.MeasureT-loop
-μ-loop routes steps answers₀ a b kinds table boxes₀ trains₀ k seen₀ whole n₀ answers boxes trains seen n = whole - n
+μ-loop routes steps answers₀ a b ways kinds table boxes₀ trains₀ k seen₀ whole n₀ answers boxes trains seen n = whole - n
 
 -- How many records there are places for.
 segments-sized : (c : tie.Start Inv-loop μ-loop) → length (c .args .t1 .segments) ≡ 96

@@ -10,10 +10,10 @@ use Rattle.running.proofs.steps.views.Statement.{statement}
 use Rattle.running.proofs.steps.views.Tie as tie
 
 abbrev Inv-loop : tie.InvT-loop
-Inv-loop routes a b kinds trains all₀ number₀ all number = (number ≤ 16) × Seen (aroundIn a b kinds routes) trains all number
+Inv-loop routes a b ways kinds trains all₀ number₀ all number = (number ≤ 16) × Seen (aroundIn a b ways kinds routes) trains all number
 
 abbrev μ-loop : tie.MeasureT-loop
-μ-loop routes a b kinds trains all₀ number₀ all number = 16 - number
+μ-loop routes a b ways kinds trains all₀ number₀ all number = 16 - number
 
 loop-holds : tie.Need-loop-holds Inv-loop μ-loop
 loop-holds c = (omega arith, seen-start _ _ (search needs))

@@ -2,6 +2,7 @@
 use Prim.Native.Nat.{ℕ, zero, suc, _+_, _-_, _*_, _≤_, _<_}
 use mathlib.Core.Path.{_≡_, refl, sym, _∙_, ap}
 use mathlib.Core.Logic.{_≢_}
+use mathlib.Core.Bool.{Bool, true, false, cond}
 use mathlib.Core.List.{List, [], _∷_, _++_}
 use native.Mathlib.Numerals.{add-one}
 use native.Mathlib.Omega.{arith}
@@ -14,8 +15,9 @@ use Rattle.rules.specs.declared.TrainPlan.{TrainPlan}
 use Rattle.rules.specs.declared.Refusal.{Refusal}
 use Rattle.rules.specs.Rows.{_if_, listOf, joinOf}
 use Rattle.rules.specs.Track.{noSegment, noBoxPlan, noTrainPlan, segmentAt, planAt, trainPlanAt, routeAt}
+use Rattle.rules.specs.Network.{hasWays}
 use Rattle.rules.specs.Placing.{withoutPlace, tableCode, tableRefusal}
-use Rattle.rules.specs.File.{headBytes, segmentBytes, boxBytes, trainBytes, encode, writeRefusal, written}
+use Rattle.rules.specs.File.{segmentSize, headBytes, segmentBytes, boxBytes, trainBytes, encode, writeRefusal, written}
 use Rattle.rules.proofs.Accepted.{accepted}
 use Rattle.rules.proofs.Refusals.{code-of, table-coded, then-refused, then-hit, then-none}
 use Rattle.rules.proofs.ReadBack.{segments-length, boxes-length, encoded-length}
@@ -59,7 +61,7 @@ written-list f {d} {o} {at} {j} {x} h e a =
     rw (n, list-more, sym e) (written-append a (record { next = refl; bytes = refl }))
 
 -- The records of segment i + 1, box i + 1 and train i + 1.
-segment-bytes : (t : Table) (i : ℕ) → segmentBytes t (i + 1) ≡ getD (t .segments) i noSegment .a ∷ getD (t .segments) i noSegment .b ∷ []
+segment-bytes : (t : Table) (i : ℕ) → let s = getD (t .segments) i noSegment in segmentBytes t (i + 1) ≡ s .a ∷ s .b ∷ cond (hasWays (t .version)) (s .way ∷ []) []
 unfolding segmentBytes segmentAt
 segment-bytes t i = rw nth-at
 
@@ -72,9 +74,8 @@ unfolding trainBytes trainPlanAt
 train-bytes t i = rw nth-at
 
 -- One record more.
-pub written-segment : (t : Table) (i : ℕ) {d o : List ℕ} {at j : ℕ} → let s = getD (t .segments) i noSegment in Written d at (joinOf i (segmentBytes t)) j o → Written d at (joinOf (i + 1) (segmentBytes t)) (j + 2) (set (set o j (s .a)) (j + 1) (s .b))
-written-segment t i {d} {o} {at} {j} a =
-    written-join (segmentBytes t) i a (rw segment-bytes (record { next = refl; bytes = rw add-one }))
+pub written-segment : (t : Table) (i : ℕ) {wide : Bool} {d o p : List ℕ} {at j k : ℕ} → let s = getD (t .segments) i noSegment in wide ≡ hasWays (t .version) → Written d at (joinOf i (segmentBytes t)) j o → Written o j (s .a ∷ s .b ∷ cond wide (s .way ∷ []) []) k p → Written d at (joinOf (i + 1) (segmentBytes t)) k p
+written-segment t i e a b = written-join (segmentBytes t) i a (rw (segment-bytes, ← e) b)
 
 pub written-box : (t : Table) (i : ℕ) {d o : List ℕ} {at j : ℕ} → let p = getD (t .boxes) i noBoxPlan in Written d at (joinOf i (boxBytes t)) j o → Written d at (joinOf (i + 1) (boxBytes t)) (j + 5) (set (set (set (set (set o j (p .kind)) (j + 1) (p .stem)) (j + 2) (p .left)) (j + 3) (p .right)) (j + 4) (p .position))
 written-box t i {d} {o} {at} {j} a =
@@ -84,14 +85,45 @@ written-box t i {d} {o} {at} {j} a =
     let e4 : j + 4 ≡ suc (suc (suc (suc j))) = omega arith in
     written-join (boxBytes t) i a (rw box-bytes (record { next = refl; bytes = rw (e1, e2, e3, e4) }))
 
+-- Two bytes, and three.
+pub written-two : {d : List ℕ} {at x y : ℕ} → Written d at (x ∷ y ∷ []) (at + 2) (set (set d at x) (at + 1) y)
+written-two = record { next = refl; bytes = rw add-one }
+
+pub written-three : {d : List ℕ} {at x y z : ℕ} → Written d at (x ∷ y ∷ z ∷ []) (at + 3) (set (set (set d at x) (at + 1) y) (at + 2) z)
+written-three {at} =
+    let e1 : at + 1 ≡ suc at = omega arith in
+    let e2 : at + 2 ≡ suc (suc at) = omega arith in
+    record { next = refl; bytes = rw (e1, e2) }
+
 -- A direction and a length, and the n places of a route after them.
 pub written-plan : (f : ℕ → ℕ) (n : ℕ) {d o : List ℕ} {at a b j : ℕ} → Written (set (set d at a) (at + 1) b) (at + 2) (listOf (at + 2 + n - (at + 2)) f) j o → Written d at (a ∷ b ∷ listOf n f) j o
 written-plan f n {d} {o} {at} {a} {b} {j} h =
     let e : at + 2 + n - (at + 2) ≡ n = omega arith in
-    written-append {v = a ∷ b ∷ []} (record { next = refl; bytes = rw add-one }) (rw e at h)
+    written-append {v = a ∷ b ∷ []} written-two (rw e at h)
 
 pub written-train : (t : Table) (i : ℕ) {d o q : List ℕ} {at j r : ℕ} → let p = getD (t .trains) i noTrainPlan in Written d at (joinOf i (trainBytes t)) j o → Written o j (p .direction ∷ p .length ∷ listOf (p .length) (routeAt (t .routes) (i + 1))) r q → Written d at (joinOf (i + 1) (trainBytes t)) r q
 written-train t i a b = written-join (trainBytes t) i a (rw train-bytes b)
+
+-- A segment record has two bytes at least, and that of segment i + 1 ends within the segment records, which have three each at most.
+pub record-least : (wide : Bool) → 2 ≤ cond wide 3 2
+record-least true = omega arith
+record-least false = omega arith
+
+pub segment-fits : (t : Table) (i n : ℕ) {wide : Bool} → wide ≡ hasWays (t .version) → i < n → length (joinOf i (segmentBytes t)) + cond wide 3 2 ≤ segmentSize (t .version) * n
+unfolding segmentSize
+segment-fits t i n {wide} e h = rw (segments-length, ← e) (by wide)
+  where
+    by : (b : Bool) → cond b 3 2 * i + cond b 3 2 ≤ cond b 3 2 * n
+    by true = omega arith
+    by false = omega arith
+
+pub segments-most : (t : Table) → segmentSize (t .version) * t .n ≤ 3 * t .n
+unfolding segmentSize
+segments-most t = by (hasWays (t .version))
+  where
+    by : (b : Bool) → cond b 3 2 * t .n ≤ 3 * t .n
+    by true = omega arith
+    by false = omega arith
 
 -- The lengths of the train records.
 train-length : (t : Table) (i : ℕ) → length (trainBytes t (i + 1)) ≡ 2 + getD (t .trains) i noTrainPlan .length
@@ -114,7 +146,7 @@ train-fits t i n h =
     omega (arith, trains-more t i)
 
 -- In a buffer that has room for the file, each part has room where the parts before it end.
-pub segments-fit : (t : Table) {d o : List ℕ} {a : ℕ} → length (encode t) ≤ length d → Written d 0 (headBytes t) a o → a + 2 * t .n ≤ length o
+pub segments-fit : (t : Table) {d o : List ℕ} {a : ℕ} → length (encode t) ≤ length d → Written d 0 (headBytes t) a o → a + segmentSize (t .version) * t .n ≤ length o
 unfolding headBytes
 segments-fit t h w = omega (arith, encoded-length t, written-length w)
 

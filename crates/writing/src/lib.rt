@@ -12,7 +12,8 @@ pub fn file_size(t: Table) -> usize
     ensures { λ r. ⌜ r ≡ length (encode t) ⌝ }
 {
     let k = t.k as usize;
-    let mut size = 8 + 2 * (t.n as usize) + 5 * (t.m as usize);
+    let width = layout::segment_size(t.version) as usize;
+    let mut size = 8 + width * (t.n as usize) + 5 * (t.m as usize);
     let mut i: usize = 0;
     while i < k {
         size += 2;

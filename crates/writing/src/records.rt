@@ -1,12 +1,14 @@
 // The parts of a table file, each stored from a place of the buffer on. Each but `put_route` hands back the place after its part.
+use rules::Segment;
 use rules::Table;
 use rules::TrainPlan;
-ghost use mathlib.Core.List.{_∷_};
+ghost use mathlib.Core.Bool.{cond};
+ghost use mathlib.Core.List.{[], _∷_};
 ghost use Prim.Native.Nat.{_+_, _-_, _*_, _≤_, _<_};
 ghost use lib.ListN.{length};
 ghost use Rattle.rules.specs.Rows.{listOf, joinOf};
 ghost use Rattle.rules.specs.Track.{routeAt};
-ghost use Rattle.rules.specs.File.{headBytes, segmentBytes, boxBytes, trainBytes, encode};
+ghost use Rattle.rules.specs.File.{segmentSize, headBytes, segmentBytes, boxBytes, trainBytes, encode};
 ghost use Rattle.writing.specs.Written.{Bounded, Written};
 
 // The head, at the front of the buffer.
@@ -25,20 +27,33 @@ fn put_head(t: Table, buffer: &mut [u8]) -> usize
     8
 }
 
+// The record of a segment: its ends, and its way where the record is wide.
+fn put_segment(s: Segment, wide: bool, buffer: &mut [u8], at: usize) -> usize
+    requires { ⌜ at + cond wide 3 2 ≤ length (now buffer) ⌝ }
+    ensures { λ r. ⌜ Written (now (buffer .entry)) at (s .a ∷ s .b ∷ cond wide (s .way ∷ []) []) r (now (buffer .exit)) ⌝ }
+{
+    buffer[at] = s.a;
+    buffer[at + 1] = s.b;
+    if wide {
+        buffer[at + 2] = s.way;
+        return at + 3;
+    }
+    at + 2
+}
+
 // The segment records.
 fn put_segments(t: Table, buffer: &mut [u8], at: usize) -> usize
     requires { ⌜ Bounded t ⌝ }
-    requires { ⌜ at + 2 * t .n ≤ length (now buffer) ⌝ }
+    requires { ⌜ at + segmentSize (t .version) * t .n ≤ length (now buffer) ⌝ }
     ensures { λ r. ⌜ Written (now (buffer .entry)) at (joinOf (t .n) (segmentBytes t)) r (now (buffer .exit)) ⌝ }
 {
     let n = t.n as usize;
+    let wide = layout::has_ways(t.version);
     let mut j = at;
     let mut i: usize = 0;
     while i < n {
         let s = t.segments[i];
-        buffer[j] = s.a;
-        buffer[j + 1] = s.b;
-        j += 2;
+        j = put_segment(s, wide, buffer, j);
         i += 1;
     }
     j

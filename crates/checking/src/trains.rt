@@ -4,9 +4,21 @@ use rules::Request;
 use rules::Train;
 use traincomputer::sight;
 ghost use mathlib.Core.Path.{_≡_};
+ghost use mathlib.Core.Bool.{_||_};
+ghost use lib.Dec.{eqb};
 ghost use Rattle.rules.specs.Track.{trackIn, wayIn, pointIn};
 ghost use Rattle.rules.specs.Record.{answerCode, addressFault, messageFault, trainFault, trainsFault};
 ghost use Rattle.traincomputer.specs.Sight.{aroundIn};
+
+// A no to a reservation.
+fn denies_reservation(code: u8) -> bool
+    ensures { λ r. ⌜ r ≡ (eqb code 22 || eqb code 31) ⌝ }
+{
+    if code == 22 {
+        return true;
+    }
+    code == 31
+}
 
 // A code that a box can give in answer to a request.
 fn answer_code(q: Request, code: u8) -> bool
@@ -16,12 +28,7 @@ fn answer_code(q: Request, code: u8) -> bool
         return true;
     }
     match q {
-        Request::Reserve(_) => {
-            if code == 22 {
-                return true;
-            }
-            code == 31
-        }
+        Request::Reserve(_) => denies_reservation(code),
         Request::Lock(_) => {
             if code == 23 {
                 return true;

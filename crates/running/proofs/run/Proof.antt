@@ -25,7 +25,7 @@ returns-2 c =
 advance-requires : tie.Need-advance-requires
 unfolding stepCount
 advance-requires c κs =
-    let kinds = c .before .before .before .before .before .before .before .before in
+    let kinds = c .before .before .before .before .before .before .before .before .before in
     let ways = kinds .before in
     let enough = ways .before .before .before .before .before .before .before in
     let counts = enough .before in

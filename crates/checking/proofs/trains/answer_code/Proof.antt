@@ -18,7 +18,7 @@ returns-3 : tie.Need-returns-3
 returns-3 c = answer-locked _ _ _ _ (c .before .before .enum-told2 .given .1) (c .before .before .before .before .if1 .left) (search tests)
 
 returns-4 : tie.Need-returns-4
-returns-4 c = ?
+returns-4 c = answer-reserved _ _ _ _ (c .before .enum-told .given .1) (c .before .before .before .if1 .left) (c .denies-reservation .ensures)
 
 returns-5 : tie.Need-returns-5
 returns-5 c = answer-locked _ _ _ _ (c .before .before .enum-told2 .given .1) (c .before .before .before .before .if1 .left) (search tests)
@@ -37,6 +37,7 @@ answer-code-spec =
     (tie.spec
     returns
     (λ c. search needs)
+    (λ c κs. search needs)
     (λ c. search needs)
     returns-2
     returns-3

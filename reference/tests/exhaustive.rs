@@ -13,7 +13,7 @@ use reference::line::*;
 use reference::line_check::record_code;
 use reference::step::{step, step_with, Step};
 use reference::refusal::Refusal;
-use reference::table::{Table, TrainEntry};
+use reference::table::{Table, TrainEntry, VERSION_1};
 use reference::table_check::check_table;
 use reference::table_write::file_bytes;
 use std::collections::{BTreeSet, HashSet};
@@ -127,7 +127,7 @@ fn all_lists_on_small_tables() {
     let mut with_24 = 0;
     for length in 0.. {
         let mut tables = 0;
-        Files::accepted(length, 1).first::<()>(&mut |table| {
+        Files::accepted(VERSION_1, length, 1).first::<()>(&mut |table| {
             if may_show(table, 23) && plainly_numbered(table) && check_table(table).is_ok() {
                 let (_, codes) = search(table);
                 assert!(!codes.contains(&23));

@@ -71,7 +71,6 @@ fn numbers(line: &fast::Line) -> Vec<u8> {
 
 /// Codes of checked steps on made-up records, and what boxes find there that answer a lock; steps of kinds 3, 4, 9 and
 /// 10 by the state of the message; lost messages by kind, those of records that pass 27 and of others.
-#[derive(Default)]
 struct RecordCounts {
     codes: Counts,
     locks: LockCounts,
@@ -80,6 +79,11 @@ struct RecordCounts {
 }
 
 impl RecordCounts {
+    fn new() -> Self {
+        let (locks, states) = (LockCounts::default(), StateCounts::default());
+        RecordCounts { codes: [0; CODES], locks, states, lost: [[0; 2]; 4] }
+    }
+
     /// Counts a step with its code on a line.
     fn add(&mut self, line: &Line, bytes: Step, code: u8) {
         self.codes[usize::from(code)] += 1;
@@ -256,7 +260,7 @@ fn lines_are_used_again() {
 fn records() {
     let mut none = fast::Line::NONE;
     assert_eq!(none.step_checked([0; 3]), 27);
-    let mut counts = RecordCounts::default();
+    let mut counts = RecordCounts::new();
     assert!((0..800).all(|case| records_alike(case, Fault::None, &mut counts)));
     let RecordCounts { codes, locks, states, lost } = counts;
     println!("{codes:?}\n{locks}{states}{lost:?}");
@@ -286,7 +290,7 @@ fn checked_steps() {
 /// shows, made-up records tell all but the first two; those in the record check are told by made-up records.
 #[test]
 fn faults_are_found() {
-    let in_records = |fault: Fault| (0..400).all(|case| records_alike(case, fault, &mut RecordCounts::default()));
+    let in_records = |fault: Fault| (0..400).all(|case| records_alike(case, fault, &mut RecordCounts::new()));
     for &fault in FAULTS.iter().filter(|fault| !fault.in_demand()) {
         let alike = match fault {
             _ if fault.in_record() => in_records(fault),

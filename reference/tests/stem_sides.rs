@@ -7,7 +7,7 @@ use reference::generate::listing::{damaged_listing, FINDINGS};
 use reference::generate::prng::Prng;
 use reference::generate::tables::{accepted_table, largest_table};
 use reference::refusal::{code_of, Refusal};
-use reference::table::{Table, VERSION};
+use reference::table::{Table, VERSION_1};
 use reference::table_check::{stem_sides, StemSide};
 use reference::table_read::read_table;
 use reference::table_write::file_bytes;
@@ -18,7 +18,7 @@ fn network(file: &[u8]) -> Table {
     let (segments, rest) = file[8..].split_at(2 * usize::from(file[5]));
     let boxes = &rest[..5 * usize::from(file[6])];
     Table {
-        version: VERSION,
+        version: VERSION_1,
         segments: common::segments(segments.as_chunks().0),
         boxes: common::boxes(boxes.as_chunks().0),
         trains: vec![],

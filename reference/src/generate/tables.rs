@@ -66,14 +66,14 @@ fn renumbered(rng: &mut Prng, draft: &Draft) -> Table {
     };
     let new_box = |old: u8| box_numbers[old as usize - 1];
     let mut table = Table {
-        version: VERSION,
+        version: VERSION_1,
         segments: vec![Segment::default(); draft.segments.len()],
         boxes: vec![SwitchBox::default(); draft.boxes.len()],
         trains: Vec::new(),
     };
     for (i, s) in draft.segments.iter().enumerate() {
         let to = segment_numbers[i] as usize - 1;
-        table.segments[to] = Segment { a: new_box(s.a), b: new_box(s.b) };
+        table.segments[to] = Segment { a: new_box(s.a), b: new_box(s.b), ..*s };
     }
     for (i, b) in draft.boxes.iter().enumerate() {
         table.boxes[box_numbers[i] as usize - 1] = SwitchBox {

@@ -53,7 +53,7 @@ pub fn boxes(records: &[[u8; 5]]) -> Vec<SwitchBox> {
 }
 
 pub fn segments(records: &[[u8; 2]]) -> Vec<Segment> {
-    records.iter().map(|&[a, b]| Segment { a, b }).collect()
+    records.iter().map(|&[a, b]| Segment { a, b, way: 0 }).collect()
 }
 
 /// Takes steps from the start line; each must have the code beside it.

@@ -1,6 +1,6 @@
 //! A corpus under way: its records, the text for them, and what has been counted.
 
-use reference::counts::Counts;
+use reference::counts::{Counts, CODES};
 use reference::generate::listing::ListingCounts;
 use reference::generate::lock_asked::LockCounts;
 use reference::generate::lost::{LostCounts, StateCounts, Watched};
@@ -38,7 +38,6 @@ pub struct MadeUp {
 }
 
 /// The corpus.
-#[derive(Default)]
 pub struct Corpus {
     pub records: Vec<u8>,
     pub text: String,
@@ -65,7 +64,24 @@ pub struct Corpus {
 
 impl Corpus {
     pub fn new() -> Self {
-        Corpus { aims: vec![0; AIMS.len()], ..Corpus::default() }
+        Corpus {
+            records: vec![],
+            text: String::new(),
+            base: vec![],
+            files: vec![],
+            runs: vec![],
+            made_up: vec![],
+            counts: [0; CODES],
+            list_codes: [0; CODES],
+            made_up_codes: [0; CODES],
+            list_locks: LockCounts::default(),
+            made_up_locks: LockCounts::default(),
+            lost: LostCounts::default(),
+            made_up_states: StateCounts::default(),
+            aims: vec![0; AIMS.len()],
+            listings: ListingCounts::default(),
+            steps: vec![],
+        }
     }
 
     pub fn file(&mut self, bytes: &[u8]) {

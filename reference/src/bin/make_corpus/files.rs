@@ -173,8 +173,8 @@ pub fn by_hand(corpus: &mut Corpus) {
     corpus.table(&with(&|t| (t.boxes[1].stem, t.boxes[1].left) = (2, 1)));
     corpus.table(&with(&|t| (t.boxes[2].stem, t.boxes[2].right) = (3, 4)));
     corpus.table(&with(&|t| (t.boxes[1].left, t.boxes[2].left) = (1, 4)));
-    corpus.table(&with(&|t| t.segments.push(Segment { a: 2, b: 3 })));
-    corpus.table(&with(&|t| t.segments.push(Segment { a: 4, b: 1 })));
+    corpus.table(&with(&|t| t.segments.push(Segment { a: 2, b: 3, ..Segment::default() })));
+    corpus.table(&with(&|t| t.segments.push(Segment { a: 4, b: 1, ..Segment::default() })));
     corpus.table(&with(&|t| t.boxes[1].right = 2));
     corpus.table(&with(&|t| t.boxes[2].left = 3));
     corpus.table(&with(&|t| t.boxes.push(SwitchBox { stem: 4, ..SwitchBox::default() })));
@@ -228,8 +228,8 @@ fn ring(size: u8) -> Table {
     let after = |i: u8| i % size + 1;
     let link = |i: u8| SwitchBox { kind: LINK, stem: i, left: after(i), right: 0, position: 0 };
     Table {
-        version: VERSION,
-        segments: (1..=size).map(|i| Segment { a: i, b: after(i) }).collect(),
+        version: VERSION_1,
+        segments: (1..=size).map(|i| Segment { a: i, b: after(i), way: BOTH_WAYS }).collect(),
         boxes: (1..=size).map(|i| link(if i == 1 { size } else { i - 1 })).collect(),
         trains: vec![],
     }

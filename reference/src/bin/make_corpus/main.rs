@@ -1,7 +1,7 @@
 //! Makes the corpus of the program `cases` and the text that it must write, with this
 //! implementation alone. The argument is a directory: the corpus goes to its file `stdin`, the text
 //! to its file `stdout`, and what they hold to standard error. It begins with the smallest example of
-//! each code 1 to 30 and ends with files in which code 8 finds one thing alone.
+//! each code 1 to 32 and ends with files in which code 8 finds one thing alone.
 //!
 //! The corpus is a list of records. Numbers of two bytes have the high byte first.
 //!

@@ -44,14 +44,27 @@ pub const fn network_bytes(version: u16, segments: usize, boxes: usize) -> usize
     HEAD_BYTES + segment_bytes(version) * segments + BOX_BYTES * boxes
 }
 
+/// The longest file that code 5 lets through, with length bytes of 255.
+pub const LONGEST_FILE: usize =
+    network_bytes(VERSION_2, MAX_SEGMENTS, MAX_BOXES) + MAX_TRAINS * (TRAIN_BYTES + u8::MAX as usize);
+
 /// Whether a version is read and written.
 pub const fn version_known(version: u16) -> bool {
     matches!(version, VERSION_1 | VERSION_2)
 }
 
-/// Whether a train of this direction (0 runs from A ends to B ends) runs against the way of a segment.
+/// The way that a train of this direction (0 runs from A ends to B ends) runs against.
+pub const fn way_against(direction: u8) -> u8 {
+    if direction == 0 {
+        B_TO_A
+    } else {
+        A_TO_B
+    }
+}
+
+/// Whether a train of this direction runs against the way of a segment.
 pub const fn against(way: u8, direction: u8) -> bool {
-    way == if direction == 0 { B_TO_A } else { A_TO_B }
+    way == way_against(direction)
 }
 
 /// One segment: the boxes at its A end and at its B end, and its way.

@@ -102,7 +102,8 @@ fn all_lists_on_s() {
 fn all_lists_of_two_that_follow() {
     let (lines, codes) = search(&s_with(&[(0, &[2, 4]), (0, &[3, 4])]));
     println!("{lines} lines, codes {codes:?}");
-    let expected: BTreeSet<u8> = list_codes().map(|code| code as u8).collect();
+    // Its segments run both ways, so that nothing is answered 31.
+    let expected: BTreeSet<u8> = list_codes().map(|code| code as u8).filter(|&code| code != 31).collect();
     assert_eq!(codes, expected);
 }
 

@@ -6,7 +6,7 @@ use common::{same, table_96, UNSEEN};
 use reference::counts::{file_codes, step_codes, Counts, CODES};
 use reference::fast;
 use reference::fault::{Fault, FAULTS};
-use reference::generate::damage::damaged_file;
+use reference::generate::damage::{damaged_file, DAMAGES};
 use reference::generate::listing::{damaged_listing, ListingCounts};
 use reference::generate::lock_asked::LockCounts;
 use reference::generate::lost::{LostCounts, StateCounts, Watched};
@@ -23,7 +23,7 @@ use reference::refusal::{code_of, Refusal};
 use reference::step::{step, step_with, Step};
 use reference::table::{Table, BORDER, LINK, MAX_BOXES, MAX_TRAINS};
 use reference::table_read::{read_table, read_table_with};
-use reference::table_write::{file_bytes, write_table};
+use reference::table_write::{file_bytes, write_table, write_table_with};
 
 /// The fast start line of an accepted file.
 fn fast_start(file: &[u8]) -> fast::Line {
@@ -140,7 +140,7 @@ fn files() {
             0 => largest_table(&mut rng),
             _ => accepted_table(&mut rng),
         };
-        for aim in 0..40 {
+        for aim in 0..2 * DAMAGES {
             let file = damaged_file(&mut rng, &table, aim);
             assert!(reads_alike(&file, Fault::None), "{file:?}");
             codes[usize::from(code_of(&read_table(&file)))] += 1;
@@ -294,10 +294,16 @@ fn faults_are_found() {
     for &fault in FAULTS.iter().filter(|fault| !fault.in_demand()) {
         let alike = match fault {
             _ if fault.in_record() => in_records(fault),
+            _ if fault.in_writer() => (0..200).all(|case| {
+                let file = file_bytes(&accepted_table(&mut Prng::for_case(36, case)));
+                let (line, table) = (fast_start(&file), read_table(&file).expect("generated tables are accepted"));
+                let (mut buffer, mut other) = (vec![0; file.len()], vec![0; file.len()]);
+                line.write(&mut buffer) == write_table_with(&table, &mut other, fault) && buffer == other
+            }),
             _ if fault.in_reader() => (0..200).all(|case| {
                 let mut rng = Prng::for_case(36, case);
                 let table = accepted_table(&mut rng);
-                (0..40).all(|aim| reads_alike(&damaged_file(&mut rng, &table, aim), fault))
+                (0..2 * DAMAGES).all(|aim| reads_alike(&damaged_file(&mut rng, &table, aim), fault))
                     && (0..10).all(|_| reads_alike(&file_bytes(&damaged_listing(&mut rng, &table)), fault))
             }),
             _ => (0..200).all(|case| {

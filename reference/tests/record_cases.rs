@@ -172,7 +172,7 @@ fn record_messages() {
         case(fault, reference::line::Message::Answered(request(LockBack, number), 0));
     }
     for code in 0..=255 {
-        let fault = (!matches!(code, 0 | 22)).then_some(AnswerCode);
+        let fault = (!matches!(code, 0 | 22 | 31)).then_some(AnswerCode);
         case(fault, reference::line::Message::Answered(request(Reservation, 3), code));
         let fault = (!matches!(code, 0 | 23 | 24 | 25)).then_some(AnswerCode);
         case(fault, reference::line::Message::Answered(request(Lock, 2), code));
@@ -212,7 +212,7 @@ fn change_record(rng: &mut Prng, line: &mut Line) {
     let value = if rng.chance(70) { small } else { rng.byte() };
     let wish = rng.pick(&WISHES);
     let asked = request(wish, value);
-    let answers = [0, 22, 23, 24, 25, 15];
+    let answers = [0, 22, 23, 24, 25, 31, 15];
     if let Some(b) = line.boxes.get_mut(at) {
         match rng.below(8) {
             0 => b.sensor = !b.sensor,

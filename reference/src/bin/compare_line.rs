@@ -7,7 +7,7 @@
 
 use reference::argument::argument;
 use reference::counts::{print_codes, Counts, CODES};
-use reference::generate::damage::damaged_file;
+use reference::generate::damage::{damaged_file, DAMAGES};
 use reference::generate::listing::damaged_listing;
 use reference::generate::outside::{driven, table_with_steps};
 use reference::generate::prng::Prng;
@@ -87,7 +87,7 @@ impl Comparison {
         let mut rng = Prng::for_case(seed, case);
         let (table, mut steps) = table_with_steps(&mut rng, case);
         self.run(&Net::Bytes(file_bytes(&table)), &steps)?;
-        let damaged = damaged_file(&mut rng, &table, (case % 21) as u8);
+        let damaged = damaged_file(&mut rng, &table, (case % u64::from(DAMAGES + 1)) as u8);
         steps.truncate(rng.below(40));
         self.run(&Net::Bytes(damaged), &steps)
     }

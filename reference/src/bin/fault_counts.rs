@@ -6,7 +6,7 @@ use reference::argument::argument;
 use reference::compare::run_case;
 use reference::demand::{Clauses, CLAUSES};
 use reference::fault::{Fault, FAULTS};
-use reference::generate::damage::damaged_file;
+use reference::generate::damage::{damaged_file, DAMAGES};
 use reference::generate::listing::damaged_listing;
 use reference::generate::made_up::{changes, AIMS};
 use reference::generate::prng::Prng;
@@ -100,7 +100,7 @@ fn reader_fault(fault: Fault, seed: u64, cases: u64, steps: usize) {
         let mut rng = Prng::for_case(seed, case);
         let table = accepted_table(&mut rng);
         let mut all = vec![file_bytes(&table)];
-        all.extend((0..40).map(|i| damaged_file(&mut rng, &table, i % 20)));
+        all.extend((0..2 * DAMAGES).map(|i| damaged_file(&mut rng, &table, i % DAMAGES)));
         let mut listing_rng = Prng::for_case(seed + 1, case);
         all.extend((0..10).map(|_| file_bytes(&damaged_listing(&mut listing_rng, &table))));
         for file in all {

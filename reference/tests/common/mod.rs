@@ -21,7 +21,7 @@ pub const S: [u8; 46] = [
 
 /// Faults in the steps that no list of steps from the start of an accepted table shows; the first two of them no
 /// made-up record shows either.
-pub const UNSEEN: [Fault; 7] = [
+pub const UNSEEN: [Fault; 8] = [
     Fault::NextBeforeMessage,
     Fault::RecordsKept,
     Fault::SensorNotAsked,
@@ -29,6 +29,7 @@ pub const UNSEEN: [Fault; 7] = [
     Fault::LockNeedsNextOnly,
     Fault::RowsBeforeGranted,
     Fault::RepeatSetsPosition,
+    Fault::WayBeforeGranted,
 ];
 
 /// Table S with other trains.

@@ -12,7 +12,7 @@ mod text;
 use made_up::{lock_case, made_up_case};
 use reference::argument::argument;
 use reference::atomic::{atomic_order, fold_places, WholeLine};
-use reference::generate::damage::damaged_file;
+use reference::generate::damage::{damaged_file, DAMAGES};
 use reference::generate::listing::damaged_listing;
 use reference::generate::prng::Prng;
 use reference::generate::steps::drive;
@@ -153,7 +153,7 @@ fn alter_table(rng: &mut Prng, table: &mut Table) {
 /// of the first one.
 fn damaged_case(rng: &mut Prng, case: u64, table: &Table) {
     for damage in 0..4 {
-        let aim = if damage == 0 { rng.between(15, 19) } else { rng.below(20) };
+        let aim = if damage == 0 { rng.between(15, 20) } else { rng.below(usize::from(DAMAGES)) };
         let file = damaged_file(rng, table, aim as u8);
         let (name, bytes) = (format!("{case}-{damage}"), list(&file));
         let refusal = numbers_of(&read_table(&file));

@@ -3,11 +3,12 @@
 
 use crate::corpus::{Corpus, FEWEST, S, SEED};
 use reference::counts::FILE_CODES;
-use reference::generate::damage::damaged_file;
+use reference::generate::damage::{damaged_file, DAMAGES};
 use reference::generate::draft::Style;
 use reference::generate::listing::{damaged_listing, found_in, FINDINGS};
 use reference::generate::prng::Prng;
 use reference::generate::tables::{accepted_table, largest_table, table_of};
+use reference::generate::ways::{add_ways, any_version};
 use reference::refusal::code_of;
 use reference::table::*;
 use reference::table_read::read_table;
@@ -37,7 +38,11 @@ pub fn accepted(corpus: &mut Corpus) {
         let mut rng = Prng::for_case(SEED, case);
         let table = match case % 10 {
             9 => largest_table(&mut rng),
-            4 => fullest_table(&mut rng),
+            4 => {
+                let mut table = fullest_table(&mut rng);
+                any_version(&mut rng, &mut table);
+                table
+            }
             _ => accepted_table(&mut rng),
         };
         corpus.table(&table);
@@ -53,7 +58,7 @@ pub fn accepted(corpus: &mut Corpus) {
     }
 }
 
-/// An accepted table with 96 segments, 96 boxes, 16 trains and a route of 64.
+/// An accepted table of version 1 with 96 segments, 96 boxes, 16 trains and a route of 64.
 fn fullest_table(rng: &mut Prng) -> Table {
     let style = Style { link: 30, split: 0, merge: 0, diamond: 1, start: 0, close: 0 };
     loop {
@@ -92,7 +97,7 @@ pub fn damaged(corpus: &mut Corpus) {
             }
         }
     }
-    for aim in 13..=20 {
+    for aim in [13, 14, 15, 16, 17, 18, 19, DAMAGES] {
         for _ in 0..6 {
             let mut rng = Prng::for_case(SEED, case);
             case += 1;
@@ -235,7 +240,8 @@ fn ring(size: u8) -> Table {
     }
 }
 
-/// The fullest table with one segment, box or train more; and the longest file that has no code below 10.
+/// The fullest table with one segment, box or train more; and, of each version, the longest file that has no code below
+/// 10.
 fn beyond_limits(corpus: &mut Corpus) {
     let full = fullest_table(&mut Prng::for_case(SEED, 500));
     let mut table = full.clone();
@@ -252,6 +258,10 @@ fn beyond_limits(corpus: &mut Corpus) {
         train.route = vec![train.route[0]; 255];
     }
     corpus.table(&table);
+    let mut one_way = table.clone();
     table.trains[15].route.clear();
     corpus.table(&table);
+    add_ways(&mut Prng::for_case(SEED, 501), &mut one_way);
+    corpus.table(&one_way);
+    assert_eq!(corpus.base.len(), LONGEST_FILE);
 }

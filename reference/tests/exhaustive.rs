@@ -13,7 +13,7 @@ use reference::line::*;
 use reference::line_check::record_code;
 use reference::step::{step, step_with, Step};
 use reference::refusal::Refusal;
-use reference::table::{Table, TrainEntry, VERSION_1};
+use reference::table::{Table, TrainEntry, B_TO_A, VERSION_1, VERSION_2};
 use reference::table_check::check_table;
 use reference::table_write::file_bytes;
 use std::collections::{BTreeSet, HashSet};
@@ -96,6 +96,17 @@ fn all_lists_on_s() {
     println!("{lines} lines, codes {codes:?}");
     let (lines, codes) = search(&s_with(&[(0, &[1, 2, 4]), (1, &[4, 2, 1])]));
     println!("{lines} lines, codes {codes:?}");
+}
+
+/// Both trains want segment 2, which runs from B to A: train 1 is told 31, and is never on it.
+#[test]
+fn all_lists_with_a_one_way_segment() {
+    let mut table = s_with(&[(0, &[1, 2, 4]), (1, &[4, 2, 1])]);
+    table.version = VERSION_2;
+    table.segments[1].way = B_TO_A;
+    let (lines, codes) = search(&table);
+    println!("{lines} lines, codes {codes:?}");
+    assert!(codes.contains(&31), "{codes:?}");
 }
 
 #[test]

@@ -103,7 +103,8 @@ fn files_hit_every_order_of_route_faults() {
 
 /// The table of a file that 1 to 9 let through, whatever its trains are.
 fn records_of(file: &[u8]) -> Table {
-    let (body, mut trains) = file.split_at(network_bytes(u16::from(file[4]), usize::from(file[5]), usize::from(file[6])));
+    let [n, m] = [file[5], file[6]].map(usize::from);
+    let (body, mut trains) = file.split_at(network_bytes(u16::from(file[4]), n, m));
     let mut table = read_table(&[&body[..7], &[0], &body[8..]].concat()).expect("the network is accepted");
     while let [direction, length, rest @ ..] = trains {
         let (route, rest) = rest.split_at(usize::from(*length));

@@ -140,7 +140,8 @@ impl WayFiles {
 impl Display for WayFiles {
     fn fmt(&self, f: &mut Formatter) -> std::fmt::Result {
         let WayFiles { other_length, above_two, train_one, later_alone, version_three } = self;
-        write!(f, "3 by version 3: {version_three}; 5 by 2n in version 2: {other_length}; 6 by a way alone: {above_two}; ")?;
+        write!(f, "3 by version 3: {version_three}; 5 by 2n in version 2: {other_length}; ")?;
+        write!(f, "6 by a way alone: {above_two}; ")?;
         write!(f, "32 of train 1: {train_one}, of later trains alone: {later_alone}")
     }
 }

@@ -77,7 +77,8 @@ fn main() {
     println!("locks answered {all}, {crossed} of them with an active sensor; steps answered 23: {answered_23}");
     let [lost_ones, again, granted] = lost.sums();
     println!("messages lost {lost_ones}, sent again {again}, granted again {granted}; repeats broken {repeats_broken}");
-    println!("tables with one-way segments {one_way_tables}, answers of 31 {against}; covered against {covered_against}");
+    println!("tables with one-way segments {one_way_tables}, answers of 31 {against}");
+    println!("steps after which a train covers a segment against its way: {covered_against}");
     println!("records checked against code 27: {record_checks}, faults {record_faults}");
     for clause in CLAUSES.into_iter().filter(|&c| broken.has(c)) {
         println!("broken: {clause:?}");

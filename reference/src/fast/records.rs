@@ -226,8 +226,8 @@ impl<'a, const N: usize> Records<'a, N> {
 
     /// 32: a train that starts against the way of its first segment.
     fn starts_against(&self) -> bool {
-        let starts = |&(direction, route): &(u8, &[u8])| against(way(&self.segments[usize::from(route[0]) - 1]), direction);
-        N > 2 && self.routes().iter().any(starts)
+        let first_way = |route: &[u8]| way(&self.segments[usize::from(route[0]) - 1]);
+        N > 2 && self.routes().iter().any(|&(direction, route)| against(first_way(route), direction))
     }
 }
 

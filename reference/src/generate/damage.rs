@@ -13,8 +13,8 @@ pub const DAMAGES: u8 = 22;
 
 /// The file of a table, damaged in a way meant for code `aim`. Other aims below `DAMAGES` put more than one damage in
 /// a table, so that the order of codes shows: 13 and 14 two of any codes, 15 to 17 some faults on routes, 18
-/// some faults of trains. 19 is meant for code 28 too, 20 for 32, now and then beside 12, 21 for 6 by the way of a segment. Any other aim
-/// damages blindly.
+/// some faults of trains. 19 is meant for code 28 too, 20 for 32, now and then beside 12, 21 for 6 by the way of a
+/// segment. Any other aim damages blindly.
 pub fn damaged_file(rng: &mut Prng, table: &Table, aim: u8) -> Vec<u8> {
     let mut t = table.clone();
     match aim {

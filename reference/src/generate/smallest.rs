@@ -217,8 +217,8 @@ fn changed_box() -> Example {
             Some(Example { file: file.clone(), steps, change: Some(change), ..Example::default() })
         })
     };
-    let found = (0..LONGEST).find_map(|length| Files::accepted(VERSION_1, length, trains_for(23)).first(&mut { first }));
-    found.expect("the code is found")
+    let files = |length| Files::accepted(VERSION_1, length, trains_for(23));
+    (0..LONGEST).find_map(|length| files(length).first(&mut { first })).expect("the code is found")
 }
 
 /// The example of code 27.

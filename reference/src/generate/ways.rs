@@ -20,7 +20,7 @@ pub fn any_version(rng: &mut Prng, table: &mut Table) {
 /// Makes a table one of version 2, as `any_version` says.
 pub fn add_ways(rng: &mut Prng, table: &mut Table) {
     table.version = VERSION_2;
-    let (share, along) = (rng.pick(&[0, 5, 10, 15, 30, 60]), rng.pick(&[70, 90, 95, 98]));
+    let (share, along) = (rng.pick(&[0, 5, 10, 15, 30, 60]), rng.pick(&[50, 75, 90, 95]));
     let certain = rng.between(1, table.segments.len()) as u8;
     for number in 1..=table.segments.len() as u8 {
         if rng.chance(share) || (share > 0 && number == certain) {

@@ -60,8 +60,8 @@ pub struct Corpus {
     pub made_up_codes: Counts,
     /// What boxes find and what becomes of messages in lists.
     pub list: ListCounts,
-    /// What boxes find that answer a lock and a reservation on made-up records, and what message the steps of kinds 3, 4,
-    /// 9 and 10 meet there.
+    /// What boxes find that answer a lock and a reservation on made-up records, and what message the steps of kinds
+    /// 3, 4, 9 and 10 meet there.
     pub made_up_locks: LockCounts,
     pub made_up_ways: WayCounts,
     pub made_up_states: StateCounts,

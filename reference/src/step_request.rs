@@ -222,7 +222,10 @@ fn show_code(line: &Line, train: usize, request: Request) -> u8 {
     match request.wish {
         Wish::Reservation if line.reservation(next, request.number) == me => 0,
         Wish::Lock if lock == me => 0,
-        Wish::Reservation => 22,
+        Wish::Reservation => match box_code(line, train, request, Fault::None) {
+            0 => 22,
+            code => code,
+        },
         Wish::Lock => match box_code(line, train, request, Fault::None) {
             0 => 24,
             code => code,

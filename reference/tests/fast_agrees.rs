@@ -21,7 +21,7 @@ use reference::numbers::message_numbers;
 use reference::record::Record;
 use reference::refusal::{code_of, Refusal};
 use reference::step::{step, step_with, Step};
-use reference::table::{Table, BORDER, LINK, MAX_BOXES, MAX_TRAINS};
+use reference::table::{Table, BORDER, LINK, MAX_BOXES, MAX_TRAINS, VERSION_2};
 use reference::table_read::{read_table, read_table_with};
 use reference::table_write::{file_bytes, write_table, write_table_with};
 
@@ -157,12 +157,13 @@ fn files() {
     assert!(listings.fewest() > 50, "{listings}");
 }
 
-/// Every change of a byte of a small file, and every front part of a large one.
+/// Every change of a byte of a small file of either version, and every front part of a large one.
 #[test]
 fn files_byte_by_byte() {
-    for at in 0..common::S.len() {
-        for value in 0..=255 {
-            let mut file = common::S;
+    let one_way = file_bytes(&Table { version: VERSION_2, ..read_table(&common::S).unwrap() });
+    for small in [&common::S[..], &one_way] {
+        for (at, value) in (0..small.len()).flat_map(|at| (0..=255).map(move |value| (at, value))) {
+            let mut file = small.to_vec();
             file[at] = value;
             assert!(reads_alike(&file, Fault::None), "{at} {value}");
         }

@@ -26,7 +26,7 @@ use std::fmt::{Display, Formatter};
 
 fn main() {
     let (seed, tables) = (argument(1, 1), argument(2, 500));
-    let (damages, steps) = (argument(3, 40), argument(4, 2000));
+    let (damages, steps) = (argument(3, 44), argument(4, 2000));
     let mut file_codes = [0; CODES];
     let mut step_codes = [0; CODES];
     let mut messages = Messages::default();

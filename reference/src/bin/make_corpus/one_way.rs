@@ -20,14 +20,14 @@ fn s_ways(ways: [u8; 4]) -> Table {
     table
 }
 
-/// Each way of each segment alone, at its limits and beyond; ways of all segments; each front part; both versions with
+/// Each byte for the way of each segment alone; ways of all segments; each front part; both versions with
 /// the length of the other; other versions; a start against the way beside 12, 28 and 6.
 pub fn files(corpus: &mut Corpus) {
     let both_ways = file_bytes(&s_ways([0; 4]));
     corpus.file(&both_ways);
     (8..both_ways.len()).for_each(|length| corpus.prefix(length));
     for segment in 0..4 {
-        (1..=5).chain([127, 128, 254, 255]).for_each(|way| corpus.change(10 + 3 * segment, way));
+        (1..=255).for_each(|way| corpus.change(10 + 3 * segment, way));
     }
     [0, 1, 3, 4, 255].into_iter().for_each(|version| corpus.change(4, version));
     [1, 2, 255].into_iter().for_each(|version| corpus.change(3, version));

@@ -4,7 +4,7 @@
 use reference::generate::draft::Style;
 use reference::generate::prng::Prng;
 use reference::generate::steps::{drive_by, step_bytes, Driver, Mix};
-use reference::generate::tables::{largest_table, table_of};
+use reference::generate::tables::{largest_both_ways, table_of};
 use reference::line::start_line;
 use reference::step::{step, Step};
 use reference::table::{Segment, SwitchBox, Table, TrainEntry, BORDER, LINK, MAX_BOXES, MAX_SEGMENTS, MAX_TRAINS, POINT};
@@ -82,17 +82,17 @@ pub fn waiting() -> Case {
 }
 
 pub fn largest(seed: u64) -> Case {
-    Case::driven(format!("largest, seed {seed}"), largest_table(&mut Prng::for_case(seed, 0)))
+    Case::driven(format!("largest, seed {seed}"), largest_both_ways(&mut Prng::for_case(seed, 0)))
 }
 
 /// The largest table of seed 0, with give-backs among the steps.
 pub fn largest_giving_back() -> Case {
-    Case::giving_back("largest, giving back".to_string(), largest_table(&mut Prng::for_case(0, 0)))
+    Case::giving_back("largest, giving back".to_string(), largest_both_ways(&mut Prng::for_case(0, 0)))
 }
 
 /// The largest table of seed 0, with messages lost and sent again.
 pub fn largest_losing() -> Case {
-    Case::losing("largest, losing".to_string(), largest_table(&mut Prng::for_case(0, 0)))
+    Case::losing("largest, losing".to_string(), largest_both_ways(&mut Prng::for_case(0, 0)))
 }
 
 /// As many boxes as there can be, and as many points as these can have: a border has one segment end, a point three, and 96
@@ -108,7 +108,7 @@ pub fn points() -> Case {
 
 /// Each step three random bytes, kinds 7 to 10 with 128 more in their place.
 pub fn random_bytes() -> Case {
-    Case::new("random bytes".to_string(), largest_table(&mut Prng::for_case(0, 0)), |rng, table| {
+    Case::new("random bytes".to_string(), largest_both_ways(&mut Prng::for_case(0, 0)), |rng, table| {
         let mut line = start_line(table);
         let mut one = || match [0; 3].map(|_| rng.byte()) {
             [kind @ 7..=10, train, number] => [kind + 128, train, number],
@@ -149,7 +149,7 @@ fn track(numbers: &[u8]) -> Table {
     let mut segments = vec![Segment::default(); n];
     let mut boxes = vec![SwitchBox::default(); n + 1];
     for p in 0..n {
-        segments[numbers[p] as usize - 1] = Segment { a: begin(p), b: begin(p + 1) };
+        segments[numbers[p] as usize - 1] = Segment { a: begin(p), b: begin(p + 1), ..Default::default() };
     }
     for p in 0..=n {
         boxes[begin(p) as usize - 1] = match p {

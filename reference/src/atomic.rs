@@ -222,10 +222,11 @@ impl<'a> WholeLine<'a> {
         }
         let me = (i + 1) as u8;
         match self.holder(next, number) {
-            0 => self.set_holder(next, number, me),
-            holder if holder != me => return 22,
             // Granted already.
-            _ => {}
+            holder if holder == me => {}
+            _ if self.table.runs_against(next, self.table.trains[i].direction) => return 31,
+            0 => self.set_holder(next, number, me),
+            _ => return 22,
         }
         self.trains[i].reservations.insert((next, number));
         0

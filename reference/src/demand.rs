@@ -1,9 +1,11 @@
 //! The third demand: what must hold after every list of steps. Each clause
 //! has its own name, so that a violation says which one broke. Beside the
-//! demand stands that no step is answered 23, and that a box says yes again
-//! to what it has granted, which changes no box.
+//! demand stands that no step is answered 23, that a box says yes again to
+//! what it has granted, which changes no box, and that no train covers a
+//! segment against its way.
 
 use crate::atomic::*;
+use crate::counts::says_no;
 use crate::fault::Fault;
 use crate::line::{BoxState, Line};
 use crate::step::Step;
@@ -43,17 +45,22 @@ pub enum Clause {
     /// Beside the demand: a box says yes to what it has granted, and some box
     /// is not as it was before.
     RepeatChangesBox,
+    /// Beside the demand: a train covers a segment against its way.
+    CoversAgainstWay,
 }
 
 impl Clause {
     /// Whether the clause is one of the demand.
     pub fn in_demand(self) -> bool {
-        !matches!(self, Clause::Answered23 | Clause::RepeatRefused | Clause::RepeatChangesBox)
+        !matches!(
+            self,
+            Clause::Answered23 | Clause::RepeatRefused | Clause::RepeatChangesBox | Clause::CoversAgainstWay
+        )
     }
 }
 
 /// All clauses, in the order of their numbers.
-pub const CLAUSES: [Clause; 14] = [
+pub const CLAUSES: [Clause; 15] = [
     Clause::TwoTrainsOneSegment,
     Clause::FrontBeyondRoute,
     Clause::PositionNotJoining,
@@ -68,6 +75,7 @@ pub const CLAUSES: [Clause; 14] = [
     Clause::Answered23,
     Clause::RepeatRefused,
     Clause::RepeatChangesBox,
+    Clause::CoversAgainstWay,
 ];
 
 /// A set of clauses.
@@ -167,7 +175,7 @@ impl<'a> Checker<'a> {
         if step[0] == 3 && self.order.kept(step[1]).is_some_and(|kept| kept.granted) {
             match answer {
                 0 if self.before != line.boxes => broken.add(Clause::RepeatChangesBox),
-                22..=25 => broken.add(Clause::RepeatRefused),
+                _ if says_no(answer) => broken.add(Clause::RepeatRefused),
                 _ => {}
             }
         }
@@ -235,6 +243,9 @@ impl<'a> Checker<'a> {
                 broken.add(Clause::TwoTrainsOneSegment);
             }
             seen |= own;
+            if covered.iter().any(|&segment| self.table.runs_against(segment, entry.direction)) {
+                broken.add(Clause::CoversAgainstWay);
+            }
             for pair in covered.windows(2) {
                 let number = self.table.far_box(pair[0], entry.direction) as usize;
                 let b = &self.table.boxes[number - 1];

@@ -216,6 +216,22 @@ faults! {
         /// A yes to a lock that the train has already sets the position again.
         RepeatSetsPosition,
     }
+    "One-way segments" {
+        /// 31 is asked at the near end of next alone.
+        WayAtNearEndOnly,
+        /// 31 is asked at the far end of next alone.
+        WayAtFarEndOnly,
+        /// 31 takes A to B for B to A, and B to A for A to B.
+        WaysSwapped,
+        /// 22 is looked at before 31.
+        HolderBeforeWay,
+        /// 31 is looked at before what is granted already.
+        WayBeforeGranted,
+        /// 31 is asked of a lock too, before 24.
+        LockAsksWay,
+        /// 31 stops a reservation when it is sent; no box answers it.
+        WayRefusedAtSending,
+    }
     "Demand 3" {
         /// The order has a give-back where it is sent, not where it is answered.
         BackOrderedWhenSent,
@@ -254,6 +270,26 @@ faults! {
         /// A route length outside 1 to 64 is looked at before the file length.
         RouteLengthBeforeFileLength,
     }
+    "One-way segments in a file" {
+        /// A version 2 file is read with segment records of two bytes: code 5 has 2n in the place of 3n.
+        WaysNotCounted,
+        /// A direction byte above 2 is accepted.
+        WayAboveTwoTaken,
+        /// Version 3 is read as version 2.
+        VersionThreeTaken,
+        /// 32 is asked of train 1 alone.
+        StartWayOfTrainOne,
+        /// 32 is looked at before 12.
+        StartWayBeforeFirsts,
+        /// 32 is asked of every segment of a route.
+        StartWayOfRoute,
+        /// 32 takes A to B for B to A, and B to A for A to B.
+        StartWaysSwapped,
+    }
+    "Writer" {
+        /// The direction bytes are not written back: each is written as 0.
+        WaysNotWritten,
+    }
     "Train and place of a refused route" {
         /// 28 is looked for in all trains before 11 in any.
         JumpsOfAllFirst,
@@ -277,7 +313,7 @@ faults! {
         RouteInForceMayJump,
         /// 27 does not ask 28 of the table part.
         TableMayJump,
-        /// 27 takes the codes of a request (22; 23 to 25) for the answer to a give-back.
+        /// 27 takes the codes of a request (22 and 31; 23 to 25) for the answer to a give-back.
         BackCodesOfRequests,
         /// 27 does not ask 16 and 17 of a give-back.
         BackMessageAnywhere,
@@ -285,6 +321,16 @@ faults! {
         SensorAnswerRefused,
         /// 27 does not look at lost messages.
         LostNotInRecord,
+        /// A direction in a version 1 record is accepted.
+        VersionOneHasWays,
+        /// 27 does not ask 32 of the table part.
+        TableMayStartAgainst,
+        /// 27 asks 32 of the route as it stands too.
+        RouteInForceAsksWay,
+        /// 27 does not take 31 for the answer to a reservation.
+        WayAnswerRefused,
+        /// 27 takes 31 for the answer to a lock or a give-back too.
+        WayAnswerToAll,
     }
 }
 
@@ -294,7 +340,13 @@ impl Fault {
         let listed = |heading| self.listed_under(heading);
         matches!(self, Fault::BranchOnStemSide | Fault::ReaderRefusesAll)
             || listed("Reader")
+            || listed("One-way segments in a file")
             || listed("Train and place of a refused route")
+    }
+
+    /// Whether the fault is in the writer.
+    pub fn in_writer(self) -> bool {
+        self.listed_under("Writer")
     }
 
     /// Whether the group with this heading has the fault.
@@ -315,7 +367,7 @@ impl Fault {
 
     /// Whether the fault is in the start or in the steps.
     pub fn in_steps(self) -> bool {
-        !self.in_reader() && !self.in_record() && !self.in_demand()
+        !self.in_reader() && !self.in_writer() && !self.in_record() && !self.in_demand()
     }
 }
 

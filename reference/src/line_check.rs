@@ -8,7 +8,7 @@ use crate::table_check::{check_table_with, route_code};
 /// The clause of code 27 that a record breaks.
 #[derive(Clone, Copy, Debug, PartialEq, Eq)]
 pub enum RecordFault {
-    /// The table part fails with this code (3, 4, 6 to 12 or 28).
+    /// The table part fails with this code (3, 4, 6 to 12, 28 or 32).
     TablePart(u8),
     /// Not one box state per box or one train state per train.
     Extent,
@@ -46,6 +46,7 @@ pub fn record_fault(line: &Line) -> Option<RecordFault> {
 pub fn record_fault_with(line: &Line, fault: Fault) -> Option<RecordFault> {
     match check_table_with(&line.table, fault) {
         Err(refusal) if refusal.code == 28 && fault == Fault::TableMayJump => {}
+        Err(refusal) if refusal.code == 32 && fault == Fault::TableMayStartAgainst => {}
         Err(refusal) => return Some(RecordFault::TablePart(refusal.code)),
         Ok(()) => {}
     }
@@ -57,6 +58,9 @@ pub fn record_fault_with(line: &Line, fault: Fault) -> Option<RecordFault> {
             0 => {}
             28 if fault == Fault::RouteInForceMayJump => {}
             code => return Some(RecordFault::Route(code)),
+        }
+        if fault == Fault::RouteInForceAsksWay && line.table.runs_against(t.route[0], t.direction) {
+            return Some(RecordFault::Route(32));
         }
         if t.covered == 0 || t.covered > 2 {
             return Some(RecordFault::Covering);
@@ -91,10 +95,12 @@ fn message_fault(line: &Line, train: usize, fault: Fault) -> Option<RecordFault>
         return Some(RecordFault::Message);
     }
     let known = match request.wish {
-        Wish::Reservation => matches!(code, 0 | 22),
+        Wish::Reservation if fault == Fault::WayAnswerRefused => matches!(code, 0 | 22),
+        Wish::Reservation => matches!(code, 0 | 22 | 31),
+        _ if fault == Fault::WayAnswerToAll && code == 31 => true,
         Wish::Lock if fault == Fault::SensorAnswerRefused => matches!(code, 0 | 24 | 25),
         Wish::Lock => matches!(code, 0 | 23..=25),
-        Wish::ReservationBack if fault == Fault::BackCodesOfRequests => matches!(code, 0 | 22),
+        Wish::ReservationBack if fault == Fault::BackCodesOfRequests => matches!(code, 0 | 22 | 31),
         Wish::LockBack if fault == Fault::BackCodesOfRequests => matches!(code, 0 | 23..=25),
         Wish::ReservationBack | Wish::LockBack => code == 0,
     };

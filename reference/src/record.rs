@@ -12,7 +12,7 @@ use crate::table::*;
 /// | Part | Fields |
 /// |---|---|
 /// | `h` | the table's head: version's high byte and low byte, n, m, k (index 0) |
-/// | `s` | a segment: A end, B end |
+/// | `s` | a segment: A end, B end, way |
 /// | `p` | a box in the table: kind, stem, left, right, position |
 /// | `d` | a train in the table: direction, length |
 /// | `r` | a train's route in the table: a field for each place |
@@ -26,7 +26,7 @@ pub type Change = [u8; 4];
 #[derive(Clone, Debug, PartialEq, Eq)]
 pub struct Record {
     head: [u8; 5],
-    segments: [[u8; 2]; MAX_SEGMENTS],
+    segments: [[u8; 3]; MAX_SEGMENTS],
     plans: [[u8; 5]; MAX_BOXES],
     train_plans: [[u8; 2]; MAX_TRAINS],
     table_routes: [[u8; MAX_ROUTE]; MAX_TRAINS],
@@ -43,7 +43,7 @@ impl Record {
         let [n, m, k] = [table.segments.len(), table.boxes.len(), table.trains.len()].map(|c| c as u8);
         let mut record = Record {
             head: [high, low, n, m, k],
-            segments: [[0; 2]; MAX_SEGMENTS],
+            segments: [[0; 3]; MAX_SEGMENTS],
             plans: [[0; 5]; MAX_BOXES],
             train_plans: [[0; 2]; MAX_TRAINS],
             table_routes: [[0; MAX_ROUTE]; MAX_TRAINS],
@@ -52,7 +52,7 @@ impl Record {
             trains: [[0; TRAIN_NUMBERS]; MAX_TRAINS],
         };
         for (i, s) in table.segments.iter().enumerate() {
-            record.segments[i] = [s.a, s.b];
+            record.segments[i] = [s.a, s.b, s.way];
         }
         for (i, b) in table.boxes.iter().enumerate() {
             record.plans[i] = [b.kind, b.stem, b.left, b.right, b.position];
@@ -124,7 +124,10 @@ impl Record {
         let table = Table {
             version: u16::from_be_bytes([high, low]),
             segments: (0..n as usize)
-                .map(|i| self.segments.get(i).map_or(Segment::default(), |&[a, b]| Segment { a, b }))
+                .map(|i| {
+                    let [a, b, way] = self.segments.get(i).copied().unwrap_or_default();
+                    Segment { a, b, way }
+                })
                 .collect(),
             boxes: (0..m as usize)
                 .map(|i| {

@@ -1,4 +1,4 @@
-//! One step of the line: kinds 1 to 10, codes 13 to 25, 29 and 30. Requests and
+//! One step of the line: kinds 1 to 10, codes 13 to 25 and 29 to 31. Requests and
 //! answers are in `step_request`, give-backs in `step_give_back`, moves in
 //! `step_move`, messages that are lost and sent again in `step_radio`.
 

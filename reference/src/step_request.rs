@@ -28,6 +28,10 @@ pub fn send(line: &mut Line, train: usize, request: Request, fault: Fault) -> u8
     if fault == Fault::CrossingMayNotAsk && line.trains[train].crossing() {
         return 20;
     }
+    let reservation = request.wish == Wish::Reservation;
+    if fault == Fault::WayRefusedAtSending && reservation && against_way(line, train, request.number, fault) {
+        return 31;
+    }
     line.trains[train].message = Message::Sent(request);
     if fault == Fault::RecordedWhenSent {
         record(line, train, request);
@@ -143,8 +147,23 @@ fn granted_already(line: &Line, train: usize, request: Request) -> bool {
     }
 }
 
-/// The decision of the box: 0 yes, 22 to 25 no. What it has granted to the
-/// train already is a yes before any other check; a give-back has a yes always.
+/// 31: next runs against the train's direction, whichever of its ends the
+/// box is at.
+fn against_way(line: &Line, train: usize, number: u8, fault: Fault) -> bool {
+    let t = &line.trains[train];
+    let next = t.next_segment().unwrap_or(0);
+    let direction = if fault == Fault::WaysSwapped { t.direction ^ 1 } else { t.direction };
+    let asked = match fault {
+        Fault::WayAtNearEndOnly => number == line.table.near_box(next, t.direction),
+        Fault::WayAtFarEndOnly => number == line.table.far_box(next, t.direction),
+        _ => true,
+    };
+    asked && line.table.runs_against(next, direction)
+}
+
+/// The decision of the box: 0 yes, 22 to 25 and 31 no. What it has granted to
+/// the train already is a yes before any other check; a give-back has a yes
+/// always.
 fn box_code(line: &Line, train: usize, request: Request, fault: Fault) -> u8 {
     let me = (train + 1) as u8;
     let number = request.number;
@@ -155,12 +174,17 @@ fn box_code(line: &Line, train: usize, request: Request, fault: Fault) -> u8 {
     match request.wish {
         Wish::Reservation => {
             let holder = line.reservation(next, number);
+            let against = against_way(line, train, number, fault) && fault != Fault::WayRefusedAtSending;
             match fault {
                 Fault::BoxesAlwaysNo => 22,
+                Fault::OwnSegmentRefused if holder == me => 22,
+                Fault::WayBeforeGranted if against => 31,
+                _ if holder == me => 0,
+                Fault::HolderBeforeWay if holder != 0 => 22,
+                _ if against => 31,
                 Fault::No22WithoutHolder if holder == 0 && number % 2 == 1 => 22,
                 Fault::ReservationTakenOver => 0,
-                Fault::OwnSegmentRefused if holder == me => 22,
-                _ if other(holder) => 22,
+                _ if holder != 0 => 22,
                 _ => 0,
             }
         }
@@ -173,6 +197,7 @@ fn box_code(line: &Line, train: usize, request: Request, fault: Fault) -> u8 {
                 Fault::LockAlwaysGiven => 0,
                 Fault::OwnLockRefused if state.lock == me => 24,
                 _ if state.lock == me && fault != Fault::RowsBeforeGranted => 0,
+                Fault::LockAsksWay if against_way(line, train, number, fault) => 31,
                 Fault::No24WithoutHolder if state.lock == 0 && number % 2 == 1 => 24,
                 Fault::SensorBeforeLock if active => 23,
                 Fault::ReservationsFirst if missing => 25,
@@ -197,7 +222,10 @@ fn show_code(line: &Line, train: usize, request: Request) -> u8 {
     match request.wish {
         Wish::Reservation if line.reservation(next, request.number) == me => 0,
         Wish::Lock if lock == me => 0,
-        Wish::Reservation => 22,
+        Wish::Reservation => match box_code(line, train, request, Fault::None) {
+            0 => 22,
+            code => code,
+        },
         Wish::Lock => match box_code(line, train, request, Fault::None) {
             0 => 24,
             code => code,

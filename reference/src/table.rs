@@ -2,8 +2,10 @@
 //!
 //! Numbers of segments, boxes and trains count from 1; 0 means none.
 
-/// The only version that is read and written.
-pub const VERSION: u16 = 1;
+/// The versions that are read and written: in the first one every segment runs both ways, the second one has a
+/// way byte for each segment.
+pub const VERSION_1: u16 = 1;
+pub const VERSION_2: u16 = 2;
 /// Most segments, boxes, trains and route segments.
 pub const MAX_SEGMENTS: usize = 96;
 pub const MAX_BOXES: usize = 96;
@@ -18,11 +20,59 @@ pub const BORDER: u8 = 0;
 pub const LINK: u8 = 1;
 pub const POINT: u8 = 2;
 
-/// One segment: the boxes at its A end and at its B end.
+/// Ways of a segment: both, A end to B end, B end to A end.
+pub const BOTH_WAYS: u8 = 0;
+pub const A_TO_B: u8 = 1;
+pub const B_TO_A: u8 = 2;
+
+/// Bytes of a file before its first record, of a box's record, and of a train's before its route.
+pub const HEAD_BYTES: usize = 8;
+pub const BOX_BYTES: usize = 5;
+pub const TRAIN_BYTES: usize = 2;
+
+/// Bytes of a segment's record in a file of this version.
+pub const fn segment_bytes(version: u16) -> usize {
+    if version < VERSION_2 {
+        2
+    } else {
+        3
+    }
+}
+
+/// Bytes of a file of this version before its trains, with so many segments and boxes.
+pub const fn network_bytes(version: u16, segments: usize, boxes: usize) -> usize {
+    HEAD_BYTES + segment_bytes(version) * segments + BOX_BYTES * boxes
+}
+
+/// The longest file that code 5 lets through, with length bytes of 255.
+pub const LONGEST_FILE: usize =
+    network_bytes(VERSION_2, MAX_SEGMENTS, MAX_BOXES) + MAX_TRAINS * (TRAIN_BYTES + u8::MAX as usize);
+
+/// Whether a version is read and written.
+pub const fn version_known(version: u16) -> bool {
+    matches!(version, VERSION_1 | VERSION_2)
+}
+
+/// The way that a train of this direction (0 runs from A ends to B ends) runs against.
+pub const fn way_against(direction: u8) -> u8 {
+    if direction == 0 {
+        B_TO_A
+    } else {
+        A_TO_B
+    }
+}
+
+/// Whether a train of this direction runs against the way of a segment.
+pub const fn against(way: u8, direction: u8) -> bool {
+    way == way_against(direction)
+}
+
+/// One segment: the boxes at its A end and at its B end, and its way.
 #[derive(Clone, Copy, Debug, PartialEq, Eq, Default)]
 pub struct Segment {
     pub a: u8,
     pub b: u8,
+    pub way: u8,
 }
 
 /// One switch box as the table gives it. Places not used are 0.
@@ -119,10 +169,14 @@ impl Table {
             && self.far_box(s, direction) == self.near_box(t, direction)
     }
 
+    /// Whether a train of this direction runs against the way of the segment; never where the table lacks it.
+    pub fn runs_against(&self, segment: u8, direction: u8) -> bool {
+        self.segment(segment).is_some_and(|s| against(s.way, direction))
+    }
+
     /// Length of the file that holds this table.
     pub fn file_length(&self) -> usize {
-        8 + 2 * self.segments.len()
-            + 5 * self.boxes.len()
-            + self.trains.iter().map(|t| 2 + t.route.len()).sum::<usize>()
+        network_bytes(self.version, self.segments.len(), self.boxes.len())
+            + self.trains.iter().map(|t| TRAIN_BYTES + t.route.len()).sum::<usize>()
     }
 }

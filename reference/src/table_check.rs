@@ -1,4 +1,4 @@
-//! The rules of the table part: codes 3, 4, 6 to 12 and 28, each over all records before the next code is
+//! The rules of the table part: codes 3, 4, 6 to 12, 28 and 32, each over all records before the next code is
 //! looked at; 11 and 28 together, in one search.
 
 use crate::fault::Fault;
@@ -12,15 +12,16 @@ pub fn check_table(table: &Table) -> Result<(), Refusal> {
 
 /// As `check_table`, with a fault switched on.
 pub fn check_table_with(table: &Table, fault: Fault) -> Result<(), Refusal> {
-    stop(version_fails(table), 3)?;
+    stop(version_fails(table, fault), 3)?;
     stop(counts_fail(table), 4)?;
     check_body_with(table, fault)
 }
 
-/// Codes 6 to 12 and 28 only, for a table whose head was checked before.
+/// Codes 6 to 12, 28 and 32 only, for a table whose head was checked before.
 pub fn check_body_with(table: &Table, fault: Fault) -> Result<(), Refusal> {
     stop(fault == Fault::ReaderRefusesAll, 6)?;
     stop(table.segments.iter().any(|s| ends_fail(table, s)), 6)?;
+    stop(fault != Fault::WayAboveTwoTaken && table.segments.iter().any(way_fails), 6)?;
     stop(table.boxes.iter().any(|b| box_fails(table, b)), 7)?;
     stop(fault == Fault::LoopBeforeListing && has_loop(table), 9)?;
     let stem_sides = kept_sides(table, fault);
@@ -38,7 +39,7 @@ fn stop(condition: bool, code: u8) -> Result<(), Refusal> {
     }
 }
 
-/// Codes 10 to 12 and 28, for a network that was checked before.
+/// Codes 10 to 12, 28 and 32, for a network that was checked before.
 fn check_trains(table: &Table, fault: Fault) -> Result<(), Refusal> {
     if fault == Fault::TrainByTrain {
         for (train, entry) in (1..).zip(&table.trains) {
@@ -57,13 +58,18 @@ fn check_trains(table: &Table, fault: Fault) -> Result<(), Refusal> {
         Fault::JumpBeforeNumber => search(table, &[28, 11], fault)?,
         _ => search(table, &[11, 28], fault)?,
     }
-    stop(fault != Fault::SameFirstTaken && first_segments_clash(table), 12)
+    stop(fault == Fault::StartWayBeforeFirsts && starts_against(table, fault), 32)?;
+    stop(fault != Fault::SameFirstTaken && first_segments_clash(table), 12)?;
+    stop(starts_against(table, fault), 32)
 }
 
-/// 3: a version that is not read, or a count too large for its byte.
-fn version_fails(table: &Table) -> bool {
+/// 3: a version that is not read, or a value that the version cannot hold: a way in version 1, or a count too large
+/// for its byte.
+fn version_fails(table: &Table, fault: Fault) -> bool {
     let byte = u8::MAX as usize;
-    table.version != VERSION
+    let one_way = |s: &Segment| s.way != BOTH_WAYS && fault != Fault::VersionOneHasWays;
+    !version_known(table.version)
+        || (table.version == VERSION_1 && table.segments.iter().any(one_way))
         || table.segments.len() > byte
         || table.boxes.len() > byte
         || table.trains.len() > byte
@@ -80,6 +86,11 @@ pub fn counts_fit(n: usize, m: usize, k: usize) -> bool {
     (MIN_SEGMENTS..=MAX_SEGMENTS).contains(&n)
         && (MIN_BOXES..=MAX_BOXES).contains(&m)
         && k <= MAX_TRAINS
+}
+
+/// 6: a way that there is not.
+pub fn way_fails(segment: &Segment) -> bool {
+    segment.way > B_TO_A
 }
 
 /// 6: an end at no box of the table, or both ends at one box.
@@ -256,4 +267,14 @@ fn jumps(table: &Table, direction: u8, before: u8, segment: u8, fault: Fault) ->
 fn first_segments_clash(table: &Table) -> bool {
     let firsts: Vec<Option<&u8>> = table.trains.iter().map(|t| t.route.first()).collect();
     (0..firsts.len()).any(|i| firsts[i + 1..].contains(&firsts[i]))
+}
+
+/// 32: a train that starts against the way of its first segment.
+fn starts_against(table: &Table, fault: Fault) -> bool {
+    let asked = if fault == Fault::StartWayOfTrainOne { 1 } else { table.trains.len() };
+    table.trains.iter().take(asked).any(|TrainEntry { direction, route }| {
+        let direction = if fault == Fault::StartWaysSwapped { direction ^ 1 } else { *direction };
+        let segments = if fault == Fault::StartWayOfRoute { &route[..] } else { &route[..1] };
+        segments.iter().any(|&segment| table.runs_against(segment, direction))
+    })
 }

@@ -1,5 +1,5 @@
-//! From file bytes to a table: codes 1 to 5 here, 6 to 12 and 28 by the rules
-//! of the table part.
+//! From file bytes to a table: codes 1 to 5 here, 6 to 12, 28 and 32 by the
+//! rules of the table part.
 
 use crate::fault::Fault;
 use crate::refusal::Refusal;
@@ -25,7 +25,7 @@ impl<'a> Reader<'a> {
 
     /// The direction and route of the next train record.
     fn train(&mut self) -> Option<(u8, &'a [u8])> {
-        let head = self.take(2)?;
+        let head = self.take(TRAIN_BYTES)?;
         Some((head[0], self.take(head[1] as usize)?))
     }
 }
@@ -37,9 +37,9 @@ pub fn read_table(bytes: &[u8]) -> Result<Table, Refusal> {
 
 /// As `read_table`, with a fault switched on.
 pub fn read_table_with(bytes: &[u8], fault: Fault) -> Result<Table, Refusal> {
-    let (version, n, m, k) = read_head(bytes)?;
-    let mut reader = Reader { bytes, next: 8 };
-    let table = read_body(&mut reader, version, n, m, k).ok_or(Refusal::by(5))?;
+    let (version, n, m, k) = read_head(bytes, fault)?;
+    let mut reader = Reader { bytes, next: HEAD_BYTES };
+    let table = read_body(&mut reader, version, n, m, k, fault).ok_or(Refusal::by(5))?;
     let short_or_long = |t: &TrainEntry| t.route.is_empty() || t.route.len() > MAX_ROUTE;
     if fault == Fault::RouteLengthBeforeFileLength && table.trains.iter().any(short_or_long) {
         return Err(Refusal::by(10));
@@ -55,7 +55,7 @@ pub fn read_table_with(bytes: &[u8], fault: Fault) -> Result<Table, Refusal> {
 /// or by 14 where it has no such train.
 pub fn route_in_file(bytes: &[u8], train: u8) -> Result<&[u8], Refusal> {
     let table = read_table(bytes)?;
-    let next = 8 + 2 * table.segments.len() + 5 * table.boxes.len();
+    let next = network_bytes(table.version, table.segments.len(), table.boxes.len());
     let mut reader = Reader { bytes, next };
     let routes = table.trains.iter().map_while(|_| reader.train());
     let (_, route) = (1..).zip(routes).find(|&(number, _)| number == train).ok_or(Refusal::by(14))?.1;
@@ -63,15 +63,16 @@ pub fn route_in_file(bytes: &[u8], train: u8) -> Result<&[u8], Refusal> {
 }
 
 /// Codes 1 to 4; version and the three counts.
-fn read_head(bytes: &[u8]) -> Result<(u16, usize, usize, usize), Refusal> {
-    if bytes.len() < 8 {
+fn read_head(bytes: &[u8], fault: Fault) -> Result<(u16, usize, usize, usize), Refusal> {
+    if bytes.len() < HEAD_BYTES {
         return Err(Refusal::by(1));
     }
     if bytes[..3] != MARK {
         return Err(Refusal::by(2));
     }
     let version = u16::from_be_bytes([bytes[3], bytes[4]]);
-    if version != VERSION {
+    let wrongly_known = fault == Fault::VersionThreeTaken && version == 3;
+    if !version_known(version) && !wrongly_known {
         return Err(Refusal::by(3));
     }
     let (n, m, k) = (bytes[5] as usize, bytes[6] as usize, bytes[7] as usize);
@@ -82,15 +83,17 @@ fn read_head(bytes: &[u8]) -> Result<(u16, usize, usize, usize), Refusal> {
 }
 
 /// All records, or nothing where the file ends within them.
-fn read_body(reader: &mut Reader, version: u16, n: usize, m: usize, k: usize) -> Option<Table> {
+fn read_body(reader: &mut Reader, version: u16, n: usize, m: usize, k: usize, fault: Fault) -> Option<Table> {
+    let of_version = if fault == Fault::WaysNotCounted { VERSION_1 } else { version };
+    let size = segment_bytes(of_version);
     let segments = reader
-        .take(2 * n)?
-        .chunks(2)
-        .map(|r| Segment { a: r[0], b: r[1] })
+        .take(size * n)?
+        .chunks(size)
+        .map(|r| Segment { a: r[0], b: r[1], way: r.get(2).copied().unwrap_or(BOTH_WAYS) })
         .collect();
     let boxes = reader
-        .take(5 * m)?
-        .chunks(5)
+        .take(BOX_BYTES * m)?
+        .chunks(BOX_BYTES)
         .map(|r| SwitchBox {
             kind: r[0],
             stem: r[1],

@@ -13,7 +13,7 @@ use reference::line::*;
 use reference::line_check::record_code;
 use reference::step::{step, step_with, Step};
 use reference::refusal::Refusal;
-use reference::table::{Table, TrainEntry};
+use reference::table::{Table, TrainEntry, B_TO_A, VERSION_1, VERSION_2};
 use reference::table_check::check_table;
 use reference::table_write::file_bytes;
 use std::collections::{BTreeSet, HashSet};
@@ -98,11 +98,23 @@ fn all_lists_on_s() {
     println!("{lines} lines, codes {codes:?}");
 }
 
+/// Both trains want segment 2, which runs from B to A: train 1 is told 31, and is never on it.
+#[test]
+fn all_lists_with_a_one_way_segment() {
+    let mut table = s_with(&[(0, &[1, 2, 4]), (1, &[4, 2, 1])]);
+    table.version = VERSION_2;
+    table.segments[1].way = B_TO_A;
+    let (lines, codes) = search(&table);
+    println!("{lines} lines, codes {codes:?}");
+    assert!(codes.contains(&31), "{codes:?}");
+}
+
 #[test]
 fn all_lists_of_two_that_follow() {
     let (lines, codes) = search(&s_with(&[(0, &[2, 4]), (0, &[3, 4])]));
     println!("{lines} lines, codes {codes:?}");
-    let expected: BTreeSet<u8> = list_codes().map(|code| code as u8).collect();
+    // Its segments run both ways, so that nothing is answered 31.
+    let expected: BTreeSet<u8> = list_codes().map(|code| code as u8).filter(|&code| code != 31).collect();
     assert_eq!(codes, expected);
 }
 
@@ -127,7 +139,7 @@ fn all_lists_on_small_tables() {
     let mut with_24 = 0;
     for length in 0.. {
         let mut tables = 0;
-        Files::accepted(length, 1).first::<()>(&mut |table| {
+        Files::accepted(VERSION_1, length, 1).first::<()>(&mut |table| {
             if may_show(table, 23) && plainly_numbered(table) && check_table(table).is_ok() {
                 let (_, codes) = search(table);
                 assert!(!codes.contains(&23));

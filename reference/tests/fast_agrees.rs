@@ -6,7 +6,7 @@ use common::{same, table_96, UNSEEN};
 use reference::counts::{file_codes, step_codes, Counts, CODES};
 use reference::fast;
 use reference::fault::{Fault, FAULTS};
-use reference::generate::damage::damaged_file;
+use reference::generate::damage::{damaged_file, DAMAGES};
 use reference::generate::listing::{damaged_listing, ListingCounts};
 use reference::generate::lock_asked::LockCounts;
 use reference::generate::lost::{LostCounts, StateCounts, Watched};
@@ -21,9 +21,9 @@ use reference::numbers::message_numbers;
 use reference::record::Record;
 use reference::refusal::{code_of, Refusal};
 use reference::step::{step, step_with, Step};
-use reference::table::{Table, BORDER, LINK, MAX_BOXES, MAX_TRAINS};
+use reference::table::{Table, BORDER, LINK, MAX_BOXES, MAX_TRAINS, VERSION_2};
 use reference::table_read::{read_table, read_table_with};
-use reference::table_write::{file_bytes, write_table};
+use reference::table_write::{file_bytes, write_table, write_table_with};
 
 /// The fast start line of an accepted file.
 fn fast_start(file: &[u8]) -> fast::Line {
@@ -71,7 +71,6 @@ fn numbers(line: &fast::Line) -> Vec<u8> {
 
 /// Codes of checked steps on made-up records, and what boxes find there that answer a lock; steps of kinds 3, 4, 9 and
 /// 10 by the state of the message; lost messages by kind, those of records that pass 27 and of others.
-#[derive(Default)]
 struct RecordCounts {
     codes: Counts,
     locks: LockCounts,
@@ -80,6 +79,11 @@ struct RecordCounts {
 }
 
 impl RecordCounts {
+    fn new() -> Self {
+        let (locks, states) = (LockCounts::default(), StateCounts::default());
+        RecordCounts { codes: [0; CODES], locks, states, lost: [[0; 2]; 4] }
+    }
+
     /// Counts a step with its code on a line.
     fn add(&mut self, line: &Line, bytes: Step, code: u8) {
         self.codes[usize::from(code)] += 1;
@@ -136,7 +140,7 @@ fn files() {
             0 => largest_table(&mut rng),
             _ => accepted_table(&mut rng),
         };
-        for aim in 0..40 {
+        for aim in 0..2 * DAMAGES {
             let file = damaged_file(&mut rng, &table, aim);
             assert!(reads_alike(&file, Fault::None), "{file:?}");
             codes[usize::from(code_of(&read_table(&file)))] += 1;
@@ -153,12 +157,13 @@ fn files() {
     assert!(listings.fewest() > 50, "{listings}");
 }
 
-/// Every change of a byte of a small file, and every front part of a large one.
+/// Every change of a byte of a small file of either version, and every front part of a large one.
 #[test]
 fn files_byte_by_byte() {
-    for at in 0..common::S.len() {
-        for value in 0..=255 {
-            let mut file = common::S;
+    let one_way = file_bytes(&Table { version: VERSION_2, ..read_table(&common::S).unwrap() });
+    for small in [&common::S[..], &one_way] {
+        for (at, value) in (0..small.len()).flat_map(|at| (0..=255).map(move |value| (at, value))) {
+            let mut file = small.to_vec();
             file[at] = value;
             assert!(reads_alike(&file, Fault::None), "{at} {value}");
         }
@@ -256,7 +261,7 @@ fn lines_are_used_again() {
 fn records() {
     let mut none = fast::Line::NONE;
     assert_eq!(none.step_checked([0; 3]), 27);
-    let mut counts = RecordCounts::default();
+    let mut counts = RecordCounts::new();
     assert!((0..800).all(|case| records_alike(case, Fault::None, &mut counts)));
     let RecordCounts { codes, locks, states, lost } = counts;
     println!("{codes:?}\n{locks}{states}{lost:?}");
@@ -286,14 +291,20 @@ fn checked_steps() {
 /// shows, made-up records tell all but the first two; those in the record check are told by made-up records.
 #[test]
 fn faults_are_found() {
-    let in_records = |fault: Fault| (0..400).all(|case| records_alike(case, fault, &mut RecordCounts::default()));
+    let in_records = |fault: Fault| (0..400).all(|case| records_alike(case, fault, &mut RecordCounts::new()));
     for &fault in FAULTS.iter().filter(|fault| !fault.in_demand()) {
         let alike = match fault {
             _ if fault.in_record() => in_records(fault),
+            _ if fault.in_writer() => (0..200).all(|case| {
+                let file = file_bytes(&accepted_table(&mut Prng::for_case(36, case)));
+                let (line, table) = (fast_start(&file), read_table(&file).expect("generated tables are accepted"));
+                let (mut buffer, mut other) = (vec![0; file.len()], vec![0; file.len()]);
+                line.write(&mut buffer) == write_table_with(&table, &mut other, fault) && buffer == other
+            }),
             _ if fault.in_reader() => (0..200).all(|case| {
                 let mut rng = Prng::for_case(36, case);
                 let table = accepted_table(&mut rng);
-                (0..40).all(|aim| reads_alike(&damaged_file(&mut rng, &table, aim), fault))
+                (0..2 * DAMAGES).all(|aim| reads_alike(&damaged_file(&mut rng, &table, aim), fault))
                     && (0..10).all(|_| reads_alike(&file_bytes(&damaged_listing(&mut rng, &table)), fault))
             }),
             _ => (0..200).all(|case| {

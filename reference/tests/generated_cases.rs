@@ -6,7 +6,7 @@ use reference::compare::{run_case, Outcome};
 use reference::counts::{file_codes, list_codes, CODES};
 use reference::demand::{check_demand, Clause};
 use reference::fault::{Fault, FAULTS};
-use reference::generate::damage::damaged_file;
+use reference::generate::damage::{damaged_file, DAMAGES};
 use reference::generate::listing::damaged_listing;
 use reference::generate::lost::{LostCounts, Watched};
 use reference::generate::made_up::{changes, AIMS};
@@ -18,9 +18,9 @@ use reference::line_check::{record_fault, record_fault_with};
 use reference::record::Record;
 use reference::refusal::code_of;
 use reference::step::{step, Step};
-use reference::table::{Table, TrainEntry};
+use reference::table::{network_bytes, Table, TrainEntry};
 use reference::table_read::{read_table, read_table_with, route_in_file};
-use reference::table_write::{file_bytes, write_table};
+use reference::table_write::{file_bytes, write_table, write_table_with};
 use std::collections::HashMap;
 
 const CASES: u64 = 150;
@@ -51,7 +51,7 @@ fn files_hit_every_code() {
     for case in 0..CASES {
         let mut rng = Prng::for_case(12, case);
         let table = accepted_table(&mut rng);
-        for aim in 0..20 {
+        for aim in 0..DAMAGES {
             let file = damaged_file(&mut rng, &table, aim);
             codes[usize::from(code_of(&read_table(&file)))] += 1;
         }
@@ -68,10 +68,10 @@ fn files_hit_every_order_of_route_faults() {
     for case in 0..CASES {
         let mut rng = Prng::for_case(16, case);
         let table = accepted_table(&mut rng);
-        for aim in 0..20 {
+        for aim in 0..DAMAGES {
             let file = damaged_file(&mut rng, &table, aim);
             let code = code_of(&read_table(&file));
-            if !matches!(code, 0 | 10..=12 | 28) {
+            if !matches!(code, 0 | 10..=12 | 28 | 32) {
                 continue;
             }
             let records = records_of(&file);
@@ -103,7 +103,8 @@ fn files_hit_every_order_of_route_faults() {
 
 /// The table of a file that 1 to 9 let through, whatever its trains are.
 fn records_of(file: &[u8]) -> Table {
-    let (body, mut trains) = file.split_at(8 + 2 * usize::from(file[5]) + 5 * usize::from(file[6]));
+    let [n, m] = [file[5], file[6]].map(usize::from);
+    let (body, mut trains) = file.split_at(network_bytes(u16::from(file[4]), n, m));
     let mut table = read_table(&[&body[..7], &[0], &body[8..]].concat()).expect("the network is accepted");
     while let [direction, length, rest @ ..] = trains {
         let (route, rest) = rest.split_at(usize::from(*length));
@@ -187,7 +188,7 @@ fn steps_lose_messages() {
         let mut line = start_line(&accepted_table(&mut rng));
         let mut driver = Driver::new(&mut rng);
         lost.start();
-        for _ in 0..2_000 {
+        for _ in 0..3_000 {
             let bytes = driver.next_step(&mut rng, &line);
             let watched = Watched::of(&line, bytes);
             let code = step(&mut line, bytes);
@@ -200,7 +201,7 @@ fn steps_lose_messages() {
 /// Over all cases of a step fault: what came up in any of them.
 fn any_case(fault: Fault) -> Outcome {
     let mut all = Outcome::default();
-    for case in 0..120 {
+    for case in 0..180 {
         let mut rng = Prng::for_case(14, case);
         let table = accepted_table(&mut rng);
         let outcome = run_case(&table, fault, 500, case % 2 == 1, &mut rng);
@@ -256,6 +257,8 @@ fn clauses_are_broken_by_the_faults_they_stop() {
         (Fault::OwnSegmentRefused, Clause::RepeatRefused),
         (Fault::OwnLockRefused, Clause::RepeatRefused),
         (Fault::BackMayBeRefused, Clause::RepeatRefused),
+        (Fault::WaysSwapped, Clause::CoversAgainstWay),
+        (Fault::WaysSwapped, Clause::OrderStopped),
     ] {
         assert!(any_case(fault).broken.has(clause), "{fault:?} {clause:?}");
     }
@@ -283,6 +286,9 @@ fn demand_alone_admits() {
         Fault::RepeatUnderWay,
         Fault::RadioTakesBox,
         Fault::NothingLostBeforeTrain,
+        Fault::HolderBeforeWay,
+        Fault::LockAsksWay,
+        Fault::WayRefusedAtSending,
     ] {
         let all = any_case(fault);
         assert!(!all.broken.breaks_demand() && all.answers_differ, "{fault:?}");
@@ -296,7 +302,7 @@ fn reader_faults_are_seen() {
         for case in 0..CASES {
             let mut rng = Prng::for_case(15, case);
             let table = accepted_table(&mut rng);
-            let mut files: Vec<Vec<u8>> = (0..20).map(|aim| damaged_file(&mut rng, &table, aim)).collect();
+            let mut files: Vec<Vec<u8>> = (0..DAMAGES).map(|aim| damaged_file(&mut rng, &table, aim)).collect();
             files.extend((0..5).map(|_| file_bytes(&damaged_listing(&mut rng, &table))));
             for file in files {
                 let (right, faulty) = (read_table(&file), read_table_with(&file, fault));
@@ -304,6 +310,19 @@ fn reader_faults_are_seen() {
             }
         }
         assert!(differ > 20, "{fault:?} {differ}");
+    }
+}
+
+/// What is written tells the faults of the writer.
+#[test]
+fn writer_faults_are_seen() {
+    for &fault in FAULTS.iter().filter(|f| f.in_writer()) {
+        let differs = |case: u64| {
+            let table = accepted_table(&mut Prng::for_case(15, case));
+            let mut buffer = vec![0; table.file_length()];
+            write_table_with(&table, &mut buffer, fault) != Ok(buffer.len()) || buffer != file_bytes(&table)
+        };
+        assert!((0..CASES).filter(|&case| differs(case)).count() > 20, "{fault:?}");
     }
 }
 

@@ -43,7 +43,8 @@ fn route_case([code, train, place]: [u8; 3], change: impl Fn(&mut Table)) {
 #[test]
 fn table_codes() {
     table_case(3, |t| t.version = 0);
-    table_case(3, |t| t.version = 2);
+    table_case(3, |t| t.version = 3);
+    table_case(3, |t| t.segments[3].way = 1);
     table_case(3, |t| t.trains[1].route = vec![1; 256]);
     table_case(3, |t| t.segments = vec![Segment::default(); 256]);
     table_case(4, |t| t.segments.clear());
@@ -171,7 +172,7 @@ fn record_messages() {
         case(fault, reference::line::Message::Answered(request(LockBack, number), 0));
     }
     for code in 0..=255 {
-        let fault = (!matches!(code, 0 | 22)).then_some(AnswerCode);
+        let fault = (!matches!(code, 0 | 22 | 31)).then_some(AnswerCode);
         case(fault, reference::line::Message::Answered(request(Reservation, 3), code));
         let fault = (!matches!(code, 0 | 23 | 24 | 25)).then_some(AnswerCode);
         case(fault, reference::line::Message::Answered(request(Lock, 2), code));
@@ -211,7 +212,7 @@ fn change_record(rng: &mut Prng, line: &mut Line) {
     let value = if rng.chance(70) { small } else { rng.byte() };
     let wish = rng.pick(&WISHES);
     let asked = request(wish, value);
-    let answers = [0, 22, 23, 24, 25, 15];
+    let answers = [0, 22, 23, 24, 25, 31, 15];
     if let Some(b) = line.boxes.get_mut(at) {
         match rng.below(8) {
             0 => b.sensor = !b.sensor,
@@ -238,7 +239,7 @@ fn change_record(rng: &mut Prng, line: &mut Line) {
     }
     match rng.below(60) {
         0 => line.table.version = value as u16,
-        1 => line.table.segments.push(Segment { a: value, b: small }),
+        1 => line.table.segments.push(Segment { a: value, b: small, way: rng.below(3) as u8 }),
         2 => line.table.boxes.iter_mut().skip(at).take(1).for_each(|b| b.stem = value),
         3 => line.table.boxes.truncate(value as usize),
         4 => line.boxes.truncate(value as usize),
@@ -289,9 +290,10 @@ fn made_up_tables_never_panic() {
         let span = rng.pick(&[3, 6, 256]);
         let byte = |rng: &mut Prng| rng.below(span) as u8;
         let (n, m, k) = (rng.below(most), rng.below(most), rng.below(20));
-        let mut table = Table { version: rng.below(3) as u16, ..Table::default() };
+        let mut table = Table { version: rng.below(4) as u16, ..Table::default() };
         for _ in 0..n {
-            table.segments.push(Segment { a: byte(&mut rng), b: byte(&mut rng) });
+            let way = if rng.chance(80) { 0 } else { byte(&mut rng) };
+            table.segments.push(Segment { a: byte(&mut rng), b: byte(&mut rng), way });
         }
         for _ in 0..m {
             let values = [0; 5].map(|_| byte(&mut rng));

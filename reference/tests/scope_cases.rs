@@ -10,7 +10,7 @@ use reference::numbers::{recorded, train_numbers};
 use reference::printout::printout;
 use reference::record::Record;
 use reference::refusal::Refusal;
-use reference::table::{Table, VERSION};
+use reference::table::{Table, VERSION_1};
 use reference::table_read::{read_table, route_in_file};
 use reference::table_write::{file_bytes, write_table};
 
@@ -60,7 +60,7 @@ fn most_segments() {
 #[test]
 fn one_segment_no_train() {
     let table = Table {
-        version: VERSION,
+        version: VERSION_1,
         segments: segments(&[[1, 2]]),
         boxes: boxes(&[[0, 1, 0, 0, 0], [0, 1, 0, 0, 0]]),
         trains: vec![],
@@ -74,7 +74,7 @@ fn one_segment_no_train() {
 #[test]
 fn two_links_make_a_loop() {
     let table = Table {
-        version: VERSION,
+        version: VERSION_1,
         segments: segments(&[[1, 2], [2, 1]]),
         boxes: boxes(&[[1, 1, 2, 0, 0], [1, 1, 2, 0, 0]]),
         trains: vec![],

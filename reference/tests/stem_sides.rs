@@ -2,24 +2,26 @@
 
 mod common;
 use common::S;
-use reference::generate::damage::damaged_file;
+use reference::generate::damage::{damaged_file, DAMAGES};
 use reference::generate::listing::{damaged_listing, FINDINGS};
 use reference::generate::prng::Prng;
 use reference::generate::tables::{accepted_table, largest_table};
 use reference::refusal::{code_of, Refusal};
-use reference::table::{Table, VERSION};
+use reference::table::{segment_bytes, Table, VERSION_1};
 use reference::table_check::{stem_sides, StemSide};
 use reference::table_read::read_table;
 use reference::table_write::file_bytes;
 use StemSide::{Neither, A, B};
 
-/// Segments and boxes of a file that 1 to 5 let through, whatever they are, with no trains.
+/// Segments and boxes of a file that 1 to 5 let through, whatever they are, with no trains and no ways.
 fn network(file: &[u8]) -> Table {
-    let (segments, rest) = file[8..].split_at(2 * usize::from(file[5]));
+    let size = segment_bytes(u16::from(file[4]));
+    let (segments, rest) = file[8..].split_at(size * usize::from(file[5]));
     let boxes = &rest[..5 * usize::from(file[6])];
+    let ends: Vec<[u8; 2]> = segments.chunks(size).map(|record| [record[0], record[1]]).collect();
     Table {
-        version: VERSION,
-        segments: common::segments(segments.as_chunks().0),
+        version: VERSION_1,
+        segments: common::segments(&ends),
         boxes: common::boxes(boxes.as_chunks().0),
         trains: vec![],
     }
@@ -101,7 +103,7 @@ fn sides_and_code_8_of_generated_files() {
             _ => accepted_table(&mut rng),
         };
         let mut files = vec![file_bytes(&table)];
-        files.extend((0..40).map(|aim| damaged_file(&mut rng, &table, aim)));
+        files.extend((0..2 * DAMAGES).map(|aim| damaged_file(&mut rng, &table, aim)));
         files.extend((0..20).map(|_| file_bytes(&damaged_listing(&mut rng, &table))));
         for file in files {
             let code = code_of(&read_table(&file));

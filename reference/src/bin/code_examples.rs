@@ -1,4 +1,4 @@
-//! Prints the smallest example of each code 1 to 30, as docs/CODES.md has them, with what the program `line` prints
+//! Prints the smallest example of each code 1 to 32, as docs/CODES.md has them, with what the program `line` prints
 //! for the files of 11 and 28.
 
 use reference::generate::smallest::smallest_examples;

@@ -7,13 +7,14 @@
 
 use reference::argument::argument;
 use reference::counts::{print_codes, Counts, CODES};
-use reference::generate::damage::damaged_file;
+use reference::generate::damage::{damaged_file, DAMAGES};
 use reference::generate::listing::damaged_listing;
 use reference::generate::outside::{driven, table_with_steps};
 use reference::generate::prng::Prng;
 use reference::generate::tables::largest_table;
 use reference::printout::{printout, MAX_STEPS};
 use reference::refusal::code_of;
+use reference::table::*;
 use reference::table_read::read_table;
 use reference::table_write::file_bytes;
 use std::fs::{create_dir, create_dir_all, remove_dir_all, remove_file, write, File};
@@ -87,7 +88,7 @@ impl Comparison {
         let mut rng = Prng::for_case(seed, case);
         let (table, mut steps) = table_with_steps(&mut rng, case);
         self.run(&Net::Bytes(file_bytes(&table)), &steps)?;
-        let damaged = damaged_file(&mut rng, &table, (case % 21) as u8);
+        let damaged = damaged_file(&mut rng, &table, (case % u64::from(DAMAGES + 1)) as u8);
         steps.truncate(rng.below(40));
         self.run(&Net::Bytes(damaged), &steps)
     }
@@ -111,10 +112,14 @@ impl Comparison {
         for steps in [&[][..], S_STEPS] {
             self.run(&Net::Missing, steps)?;
             self.run(&Net::Directory, steps)?;
-            for length in [0, 1, 7, 8, 9, 45, 46, 47, 4_095, 4_096, 4_097, 4_791, 4_792, 4_793, 65_536, 100_000] {
+            let around = [VERSION_1, VERSION_2].map(longest_length).map(|length| [length - 1, length, length + 1]);
+            let others = [0, 1, 7, 8, 9, 45, 46, 47, 4_095, 4_096, 4_097, 65_536, 100_000];
+            for length in others.into_iter().chain(around.concat()) {
                 self.run(&Net::Bytes(long(length)), steps)?;
             }
-            self.run(&Net::Bytes(longest_file()), steps)?;
+            for version in [VERSION_1, VERSION_2] {
+                self.run(&Net::Bytes(longest_file(version)), steps)?;
+            }
             self.run(&Net::Bytes(vec![0xFF; 100_000]), steps)?;
         }
         Ok(())
@@ -239,15 +244,20 @@ fn in_pieces(mut child: Child, steps: &[u8]) -> Result<std::process::Output> {
     output
 }
 
-/// A file of 4,792 bytes, the longest that code 5 lets through: 96 segments and boxes, 16 trains with
-/// route lengths of 255.
-fn longest_file() -> Vec<u8> {
-    let mut file = vec![0x4E, 0x45, 0x54, 0, 1, 96, 96, 16];
-    file.resize(8 + 2 * 96 + 5 * 96, 1);
-    for _ in 0..16 {
+/// Bytes of the longest file of a version that code 5 lets through: 96 segments and boxes, 16 trains with route lengths
+/// of 255.
+fn longest_length(version: u16) -> usize {
+    network_bytes(version, MAX_SEGMENTS, MAX_BOXES) + MAX_TRAINS * (TRAIN_BYTES + 255)
+}
+
+/// Such a file, of 4,792 bytes in version 1 and of 4,888 in version 2.
+fn longest_file(version: u16) -> Vec<u8> {
+    let mut file = vec![0x4E, 0x45, 0x54, 0, version as u8, 96, 96, 16];
+    file.resize(network_bytes(version, MAX_SEGMENTS, MAX_BOXES), 1);
+    for _ in 0..MAX_TRAINS {
         file.extend([0, 255]);
         file.extend([1; 255]);
     }
-    assert_eq!(file.len(), 4_792);
+    assert_eq!(file.len(), longest_length(version));
     file
 }

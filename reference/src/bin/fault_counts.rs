@@ -6,7 +6,7 @@ use reference::argument::argument;
 use reference::compare::run_case;
 use reference::demand::{Clauses, CLAUSES};
 use reference::fault::{Fault, FAULTS};
-use reference::generate::damage::damaged_file;
+use reference::generate::damage::{damaged_file, DAMAGES};
 use reference::generate::listing::damaged_listing;
 use reference::generate::made_up::{changes, AIMS};
 use reference::generate::prng::Prng;
@@ -17,7 +17,7 @@ use reference::line_check::record_fault_with;
 use reference::record::Record;
 use reference::table::Table;
 use reference::table_read::{read_table, read_table_with};
-use reference::table_write::file_bytes;
+use reference::table_write::{file_bytes, write_table_with};
 
 /// Counts per clause, as text.
 #[derive(Default)]
@@ -49,7 +49,8 @@ fn main() {
     println!("seed {seed}: {cases} cases of {steps} steps per fault; half are led by the faulty line");
     println!("demand 3: cases that break it; answers: cases with an answer that differs; state: cases");
     println!("where boxes or places differ after some step; none: cases with none of these and no clause broken;");
-    println!("the clauses Answered23, RepeatRefused and RepeatChangesBox are none of demand 3, but stand beside it");
+    println!("the clauses Answered23, RepeatRefused, RepeatChangesBox and CoversAgainstWay are none of demand 3, but");
+    println!("stand beside it");
     println!(
         "{:24} {:>5} {:>8} {:>7} {:>5} {:>4}  clauses broken, with cases",
         "step fault", "cases", "demand 3", "answers", "state", "none"
@@ -66,6 +67,11 @@ fn main() {
     );
     for &fault in [Fault::None].iter().chain(FAULTS).filter(|f| f.in_reader() || **f == Fault::None) {
         reader_fault(fault, seed, cases, steps);
+    }
+    println!();
+    println!("{:27} {:>6} {:>6}", "writer fault", "tables", "differ");
+    for &fault in [Fault::None].iter().chain(FAULTS).filter(|f| f.in_writer() || **f == Fault::None) {
+        writer_fault(fault, seed, cases);
     }
     println!();
     println!("made-up records, each with one clause of 27 broken or none, after the steps of a list");
@@ -100,7 +106,7 @@ fn reader_fault(fault: Fault, seed: u64, cases: u64, steps: usize) {
         let mut rng = Prng::for_case(seed, case);
         let table = accepted_table(&mut rng);
         let mut all = vec![file_bytes(&table)];
-        all.extend((0..40).map(|i| damaged_file(&mut rng, &table, i % 20)));
+        all.extend((0..2 * DAMAGES).map(|i| damaged_file(&mut rng, &table, i % DAMAGES)));
         let mut listing_rng = Prng::for_case(seed + 1, case);
         all.extend((0..10).map(|_| file_bytes(&damaged_listing(&mut listing_rng, &table))));
         for file in all {
@@ -122,6 +128,17 @@ fn reader_fault(fault: Fault, seed: u64, cases: u64, steps: usize) {
     }
     let name = format!("{fault:?}");
     println!("{name:27} {files:5} {differ:6} {accepted:8} {demand:8}  {}", clauses.text());
+}
+
+/// Accepted tables: where the faulty writer writes something else.
+fn writer_fault(fault: Fault, seed: u64, cases: u64) {
+    let differs = |case: &u64| {
+        let table = accepted_table(&mut Prng::for_case(seed, *case));
+        let mut buffer = vec![0; table.file_length()];
+        write_table_with(&table, &mut buffer, fault).is_err() || buffer != file_bytes(&table)
+    };
+    let name = format!("{fault:?}");
+    println!("{name:27} {cases:6} {:6}", (0..cases).filter(differs).count());
 }
 
 /// Made-up records for each aim: where the faulty check differs on 27.

@@ -6,28 +6,36 @@
 
 use reference::argument::argument;
 use reference::counts::{print_codes, CODES};
-use reference::generate::damage::damaged_file;
+use reference::fault::Fault;
+use reference::generate::damage::{damaged_file, DAMAGES};
 use reference::generate::listing::{damaged_listing, ListingCounts};
 use reference::generate::lock_asked::LockCounts;
 use reference::generate::lost::{LostCounts, Watched};
 use reference::generate::prng::Prng;
 use reference::generate::steps::Driver;
 use reference::generate::tables::{accepted_table, largest_table};
+use reference::generate::way_asked::WayCounts;
 use reference::line::{start_line, Line, Message, WISHES};
 use reference::refusal::{code_of, numbers_of};
 use reference::step::{step, Step};
-use reference::table_read::read_table;
+use reference::table::{BOTH_WAYS, VERSION_1};
+use reference::table_read::{read_table, read_table_with};
 use reference::table_write::file_bytes;
 use std::collections::HashMap;
+use std::fmt::{Display, Formatter};
 
 fn main() {
     let (seed, tables) = (argument(1, 1), argument(2, 500));
-    let (damages, steps) = (argument(3, 40), argument(4, 2000));
+    let (damages, steps) = (argument(3, 44), argument(4, 2000));
     let mut file_codes = [0; CODES];
     let mut step_codes = [0; CODES];
     let mut messages = Messages::default();
     let mut locks = LockCounts::default();
     let mut lost = LostCounts::default();
+    let mut ways = WayCounts::default();
+    // Tables of version 1, of version 2 with all segments both ways, and with one-way segments.
+    let mut versions = [0; 3];
+    let mut way_files = WayFiles::default();
     let mut listings = ListingCounts::default();
     // 11 and 28, in train 1 and in later ones, at places 1 to 4 and later ones.
     let mut places = [[[0; 5]; 2]; 2];
@@ -38,14 +46,17 @@ fn main() {
             9 => largest_table(&mut rng),
             _ => accepted_table(&mut rng),
         };
+        let one_way = table.segments.iter().any(|s| s.way != BOTH_WAYS);
+        versions[usize::from(table.version != VERSION_1) + usize::from(one_way)] += 1;
         let file = file_bytes(&table);
         let code = code_of(&read_table(&file));
         refused += usize::from(code != 0);
         file_codes[usize::from(code)] += 1;
         for i in 0..damages {
-            let damaged = damaged_file(&mut rng, &table, (i % 20) as u8);
+            let damaged = damaged_file(&mut rng, &table, (i % u64::from(DAMAGES)) as u8);
             let [code, train, place] = numbers_of(&read_table(&damaged));
             file_codes[usize::from(code)] += 1;
+            way_files.add(&damaged, code);
             if train != 0 {
                 let row = usize::from(code == 28);
                 let place = usize::from(place.min(5)) - 1;
@@ -67,6 +78,7 @@ fn main() {
             let before = message_of(&line, bytes);
             locks.add(&line, bytes);
             let watched = Watched::of(&line, bytes);
+            ways.add(&line, bytes);
             let code = step(&mut line, bytes);
             lost.add(watched, bytes, code);
             step_codes[code as usize] += 1;
@@ -79,7 +91,9 @@ fn main() {
     println!("undamaged tables refused: {refused}");
     println!("most segments, boxes, trains, route length: {most:?}");
     println!("most segments entered by one train: {farthest}");
+    println!("tables of version 1, of version 2 with all segments both ways, with one-way segments: {versions:?}");
     print_codes(&file_codes, &step_codes);
+    println!("{way_files}");
     println!("code  train        at place 1, 2, 3, 4 and later ones");
     for (code, by_train) in [11, 28].into_iter().zip(places) {
         for (train, counts) in ["1", "later ones"].into_iter().zip(by_train) {
@@ -91,10 +105,45 @@ fn main() {
         println!("{:4}  {counts:6?}", wish as u8);
     }
     let [again, handed_on] = messages.after_back;
+    print!("{ways}");
     print!("{locks}");
     print!("{lost}");
     println!("given back, then had again by the same train: {again}, by another one: {handed_on}");
     print!("{listings}");
+}
+
+/// Files that are refused by what version 2 adds.
+#[derive(Default)]
+struct WayFiles {
+    other_length: usize,
+    above_two: usize,
+    train_one: usize,
+    later_alone: usize,
+    version_three: usize,
+}
+
+impl WayFiles {
+    /// Counts a refused file.
+    fn add(&mut self, file: &[u8], code: u8) {
+        let without = |fault: Fault| code_of(&read_table_with(file, fault)) != code;
+        match code {
+            3 => self.version_three += usize::from(file[3..5] == [0, 3]),
+            5 => self.other_length += usize::from(without(Fault::WaysNotCounted)),
+            6 => self.above_two += usize::from(without(Fault::WayAboveTwoTaken)),
+            32 if without(Fault::StartWayOfTrainOne) => self.later_alone += 1,
+            32 => self.train_one += 1,
+            _ => {}
+        }
+    }
+}
+
+impl Display for WayFiles {
+    fn fmt(&self, f: &mut Formatter) -> std::fmt::Result {
+        let WayFiles { other_length, above_two, train_one, later_alone, version_three } = self;
+        write!(f, "3 by version 3: {version_three}; 5 by 2n in version 2: {other_length}; ")?;
+        write!(f, "6 by a way alone: {above_two}; ")?;
+        write!(f, "32 of train 1: {train_one}, of later trains alone: {later_alone}")
+    }
 }
 
 /// What became of messages.

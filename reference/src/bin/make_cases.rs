@@ -4,7 +4,7 @@
 //! Arguments: seed, number of cases, steps per case, directory.
 
 use reference::argument::argument;
-use reference::generate::damage::damaged_file;
+use reference::generate::damage::{damaged_file, DAMAGES};
 use reference::generate::prng::Prng;
 use reference::generate::steps::Driver;
 use reference::generate::tables::{accepted_table, largest_table};
@@ -52,7 +52,7 @@ fn make_case(seed: u64, case: u64, steps: usize) -> Case {
     }
     let net = match case % 6 {
         4 => {
-            let aim = rng.below(20) as u8;
+            let aim = rng.below(usize::from(DAMAGES)) as u8;
             damaged_file(&mut rng, &table, aim)
         }
         _ => file_bytes(&table),

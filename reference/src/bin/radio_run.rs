@@ -1,10 +1,11 @@
 //! Runs over a radio that loses a share of all messages, sent and answered
 //! ones, which are then sent again: the third demand after every step, that no
-//! step is answered 23, and that a box says yes again to what it has granted,
-//! which changes no box.
+//! step is answered 23, that a box says yes again to what it has granted, which
+//! changes no box, and that no train covers a segment against its way.
 //! Arguments: seed, number of tables, steps per table, for each share.
 
 use reference::argument::argument;
+use reference::counts::says_no;
 use reference::demand::{Checker, Clauses, CLAUSES};
 use reference::generate::lost::{LostCounts, Watched};
 use reference::generate::prng::Prng;
@@ -23,6 +24,8 @@ struct Runs {
     /// Messages under way: requests and give-backs sent, sent again and answered.
     under_way: u64,
     heard: u64,
+    /// Answers of 31.
+    against: u64,
     entered: u64,
     at_end: u64,
     trains: u64,
@@ -71,8 +74,13 @@ fn run(runs: &mut Runs, rng: &mut Prng, case: u64, share: usize, steps: u64) {
         runs.lost.add(watched, bytes, answer);
         note(checker.observe(bytes, answer, &line));
         runs.steps += 1;
-        runs.under_way += u64::from(matches!((bytes[0], answer), (1 | 2 | 7 | 8 | 10, 0) | (3, 0 | 22..=25)));
-        runs.heard += u64::from(matches!((bytes[0], answer), (4, 0 | 22..=25)));
+        let answered = answer == 0 || says_no(answer);
+        runs.under_way += u64::from(match bytes[0] {
+            1 | 2 | 7 | 8 | 10 => answer == 0,
+            kind => kind == 3 && answered,
+        });
+        runs.heard += u64::from(bytes[0] == 4 && answered);
+        runs.against += u64::from((bytes[0], answer) == (3, 31));
         runs.entered += u64::from((bytes[0], answer) == (5, 0));
     }
     runs.atomic += checker.order_length;
@@ -86,7 +94,7 @@ fn print_runs(runs: &Runs, share: usize) {
     let percent = 100.0 * lost as f64 / runs.under_way.max(1) as f64;
     println!("share {share} %: {} steps", runs.steps);
     println!("{} messages under way, {lost} of them lost ({percent:.1} %)", runs.under_way);
-    println!("{again} sent again, {} answers heard", runs.heard);
+    println!("{again} sent again, {} answers heard, {} answers of 31", runs.heard, runs.against);
     println!("{granted} granted again, {} atomic steps, {} segments entered", runs.atomic, runs.entered);
     println!("{} of {} trains at the end of their route", runs.at_end, runs.trains);
     print!("{}", runs.lost);

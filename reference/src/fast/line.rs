@@ -1,6 +1,6 @@
 //! The line record: table, boxes and trains, each train with what stands around it.
 
-use super::records::Records;
+use super::records::{Head, Records};
 use super::table::{Route, Table};
 use crate::line::{self, Request, Wish};
 use crate::numbers::{BOX_NUMBERS, TRAIN_NUMBERS};
@@ -67,6 +67,8 @@ pub struct Train {
 #[derive(Clone, Copy, Debug)]
 pub struct Around {
     pub next: u8,
+    /// Whether the train runs against the way of next.
+    pub against: bool,
     /// The box ahead, at the near end of next, and whether it is a point.
     pub ahead: u8,
     pub point: bool,
@@ -95,6 +97,7 @@ impl Train {
         message: Message::NONE,
         around: Around {
             next: 0,
+            against: false,
             ahead: 0,
             point: false,
             joining: 0,
@@ -130,16 +133,25 @@ impl Line {
         routes: [Route::NONE; MAX_TRAINS],
     };
 
-    /// Makes this the start line of a file. Refused by 1 to 12 or 28, with the line as it was.
+    /// Makes this the start line of a file. Refused by 1 to 12, 28 or 32, with the line as it was.
     pub fn read(&mut self, file: &[u8]) -> Result<(), Refusal> {
-        let records = Records::in_file(file)?;
+        let (head, body) = Head::of(file)?;
+        match head.version {
+            VERSION_1 => self.read_body::<{ segment_bytes(VERSION_1) }>(head, body),
+            _ => self.read_body::<{ segment_bytes(VERSION_2) }>(head, body),
+        }
+    }
+
+    /// The same from the bytes behind the head, with N bytes for a segment. Refused by 5 to 12, 28 or 32.
+    fn read_body<const N: usize>(&mut self, head: Head, body: &[u8]) -> Result<(), Refusal> {
+        let records = Records::<N>::in_body(head, body).ok_or(Refusal::by(5))?;
         records.check()?;
         self.start(&records);
         Ok(())
     }
 
     /// The start line of records that were accepted.
-    fn start(&mut self, records: &Records) {
+    fn start<const N: usize>(&mut self, records: &Records<N>) {
         self.table.set(records);
         for (state, &[.., position]) in self.boxes.iter_mut().zip(records.boxes) {
             *state = BoxState { sensor: false, position, lock: 0 };
@@ -153,8 +165,8 @@ impl Line {
         }
     }
 
-    /// Writes the file of the table to the front of the buffer and gives its length. Refused by 3, 4, 6 to 12, 28
-    /// or 26, with the buffer as it was.
+    /// Writes the file of the table to the front of the buffer and gives its length. Refused by 3, 4, 6 to 12, 28,
+    /// 32 or 26, with the buffer as it was.
     pub fn write(&self, buffer: &mut [u8]) -> Result<usize, Refusal> {
         self.table.write(buffer)
     }
@@ -164,14 +176,15 @@ impl Line {
         let route = &self.routes[train];
         let place = self.trains[train].place;
         let [tail, front, next] = [2, 1, 0].map(|back| route.segment(place.wrapping_sub(back)));
-        let end = |segment: u8, side: usize| self.table.ends(segment)[side];
         let far = usize::from(route.direction == 0);
-        let (passed, ahead, beyond) = (end(front, 1 - far), end(front, far), end(next, far));
+        let (front_record, next_record) = (self.table.segment(front), self.table.segment(next));
+        let (passed, ahead, beyond) = (front_record[1 - far], front_record[far], next_record[far]);
         let (kind, front_place) = self.place_of(ahead, front);
         let (_, next_place) = self.place_of(ahead, next);
         let holder = |number: u8, segment: u8| slot(number, self.place_of(number, segment).1);
         self.trains[train].around = Around {
             next,
+            against: against(next_record[2], route.direction),
             ahead,
             point: kind == POINT,
             joining: front_place.max(next_place),

@@ -26,7 +26,7 @@ impl Line {
     }
 
     /// A route that fails 10, 11 or 28, a train outside it or covering what it may not, or its message.
-    fn trains_fail(&self, records: &Records) -> bool {
+    fn trains_fail<const N: usize>(&self, records: &Records<N>) -> bool {
         let routes = self.routes.iter().zip(records.routes());
         routes.zip(&self.trains).any(|((route, &read), train)| {
             // The route that was read has been checked with the table.
@@ -47,7 +47,7 @@ fn message_fails(train: &Train) -> bool {
     let at_end = request.number == around.ahead || request.number == around.beyond;
     let at_point = request.number == around.ahead && around.point;
     let fits = match request.wish {
-        Wish::Reservation => matches!(code, 0 | 22) && at_end,
+        Wish::Reservation => matches!(code, 0 | 22 | 31) && at_end,
         Wish::Lock => matches!(code, 0 | 23..=25) && at_point,
         Wish::ReservationBack => code == 0 && at_end,
         Wish::LockBack => code == 0 && at_point,

@@ -1,13 +1,18 @@
 //! The records of a table where they stand, in a file or in a line, and how they are refused:
-//! by 1 to 5 for a file, by 6 to 12 and 28 for both.
+//! by 1 to 5 for a file, by 6 to 12, 28 and 32 for both.
 
 use crate::refusal::Refusal;
 use crate::table::*;
 use crate::table_read::MARK;
 
-pub struct Records<'a> {
-    /// Boxes at the A end and at the B end.
-    pub segments: &'a [[u8; 2]],
+/// Bytes of a segment's record in a line: those of version 2.
+pub const LINE_SEGMENT: usize = segment_bytes(VERSION_2);
+
+/// Records with N bytes for a segment.
+pub struct Records<'a, const N: usize> {
+    pub version: u16,
+    /// Boxes at the A end and at the B end; with three bytes, the way.
+    pub segments: &'a [[u8; N]],
     /// Kind, stem, left, right and position at the start.
     pub boxes: &'a [[u8; 5]],
     trains: usize,
@@ -15,17 +20,38 @@ pub struct Records<'a> {
     routes: [(u8, &'a [u8]); MAX_TRAINS],
 }
 
-/// Codes 3 and 4 of a table's head.
-pub fn head_code(version: u16, [n, m, k]: [u8; 3]) -> u8 {
-    let [n, m, k] = [n, m, k].map(usize::from);
-    let fit = (MIN_SEGMENTS..=MAX_SEGMENTS).contains(&n) && (MIN_BOXES..=MAX_BOXES).contains(&m) && k <= MAX_TRAINS;
-    if version != VERSION {
-        3
-    } else if !fit {
-        4
-    } else {
-        0
+/// What a file begins with, behind the mark.
+pub struct Head {
+    pub version: u16,
+    /// n, m and k.
+    counts: [u8; 3],
+}
+
+impl Head {
+    /// The head of a file, and the bytes behind it; refused by 1 to 4.
+    pub fn of(file: &[u8]) -> Result<(Head, &[u8]), Refusal> {
+        let Some((&[x, y, z, high, low, ref counts @ ..], body)) = file.split_first_chunk::<HEAD_BYTES>() else {
+            return Err(Refusal::by(1));
+        };
+        let head = Head { version: u16::from_be_bytes([high, low]), counts: *counts };
+        match () {
+            _ if [x, y, z] != MARK => Err(Refusal::by(2)),
+            _ if !version_known(head.version) => Err(Refusal::by(3)),
+            _ if counts_fail(head.counts) => Err(Refusal::by(4)),
+            _ => Ok((head, body)),
+        }
     }
+}
+
+/// 4: a count outside its limits.
+pub fn counts_fail(counts: [u8; 3]) -> bool {
+    let [n, m, k] = counts.map(usize::from);
+    !((MIN_SEGMENTS..=MAX_SEGMENTS).contains(&n) && (MIN_BOXES..=MAX_BOXES).contains(&m) && k <= MAX_TRAINS)
+}
+
+/// The way in a segment's record, which is both ways where it has no byte for it.
+pub fn way<const N: usize>(record: &[u8; N]) -> u8 {
+    record.get(2).copied().unwrap_or(BOTH_WAYS)
 }
 
 /// Whether a number is 0 or above the last one.
@@ -33,10 +59,15 @@ fn outside(number: u8, last: usize) -> bool {
     usize::from(number).wrapping_sub(1) >= last
 }
 
-impl<'a> Records<'a> {
+impl<'a, const N: usize> Records<'a, N> {
     /// The records of a line's table, of which the trains are given.
-    pub fn new(segments: &'a [[u8; 2]], boxes: &'a [[u8; 5]], trains: impl Iterator<Item = (u8, &'a [u8])>) -> Self {
-        let mut records = Records { segments, boxes, trains: 0, routes: [(0, &[]); MAX_TRAINS] };
+    pub fn new(
+        version: u16,
+        segments: &'a [[u8; N]],
+        boxes: &'a [[u8; 5]],
+        trains: impl Iterator<Item = (u8, &'a [u8])>,
+    ) -> Self {
+        let mut records = Records { version, segments, boxes, trains: 0, routes: [(0, &[]); MAX_TRAINS] };
         for (route, given) in records.routes.iter_mut().zip(trains) {
             *route = given;
             records.trains += 1;
@@ -44,24 +75,11 @@ impl<'a> Records<'a> {
         records
     }
 
-    /// The records of a file; refused by 1 to 5.
-    pub fn in_file(file: &'a [u8]) -> Result<Self, Refusal> {
-        let Some((&[x, y, z, high, low, n, m, k], body)) = file.split_first_chunk() else {
-            return Err(Refusal::by(1));
-        };
-        if [x, y, z] != MARK {
-            return Err(Refusal::by(2));
-        }
-        match head_code(u16::from_be_bytes([high, low]), [n, m, k]) {
-            0 => Self::in_body(body, [n, m, k].map(usize::from)).ok_or(Refusal::by(5)),
-            code => Err(Refusal::by(code)),
-        }
-    }
-
-    /// The records behind the head, if they are as long as they say.
-    fn in_body(body: &'a [u8], [n, m, k]: [usize; 3]) -> Option<Self> {
-        let (segments, body) = body.split_at_checked(2 * n)?;
-        let (boxes, mut body) = body.split_at_checked(5 * m)?;
+    /// The records behind the head of a file, if they are as long as they say.
+    pub fn in_body(Head { version, counts }: Head, body: &'a [u8]) -> Option<Self> {
+        let [n, m, k] = counts.map(usize::from);
+        let (segments, body) = body.split_at_checked(N * n)?;
+        let (boxes, mut body) = body.split_at_checked(BOX_BYTES * m)?;
         let mut routes: [(u8, &[u8]); MAX_TRAINS] = [(0, &[]); MAX_TRAINS];
         for route in &mut routes[..k] {
             let (&[direction, length], rest) = body.split_first_chunk()?;
@@ -70,14 +88,14 @@ impl<'a> Records<'a> {
             body = rest;
         }
         let (segments, boxes) = (segments.as_chunks().0, boxes.as_chunks().0);
-        body.is_empty().then_some(Records { segments, boxes, trains: k, routes })
+        body.is_empty().then_some(Records { version, segments, boxes, trains: k, routes })
     }
 
     pub fn routes(&self) -> &[(u8, &'a [u8])] {
         &self.routes[..self.trains]
     }
 
-    /// Whether 6 to 12 and 28 let the records through.
+    /// Whether 6 to 12, 28 and 32 let the records through.
     pub fn check(&self) -> Result<(), Refusal> {
         let code = match () {
             _ if self.ends_fail() => 6,
@@ -95,10 +113,11 @@ impl<'a> Records<'a> {
                 return Err(Refusal { code, train, place });
             }
         }
-        if self.firsts_clash() {
-            return Err(Refusal::by(12));
+        match () {
+            _ if self.firsts_clash() => Err(Refusal::by(12)),
+            _ if self.starts_against() => Err(Refusal::by(32)),
+            _ => Ok(()),
         }
-        Ok(())
     }
 
     /// Whether 10, 11 or 28 stops a route.
@@ -106,10 +125,13 @@ impl<'a> Records<'a> {
         shape_fails(direction, route) || self.route_fault(direction, route).is_some()
     }
 
-    /// 6: an end at no box, or both ends at one.
+    /// 6: an end at no box, both ends at one, or a way that there is not.
     fn ends_fail(&self) -> bool {
         let m = self.boxes.len();
-        self.segments.iter().fold(false, |fails, &[a, b]| fails | outside(a, m) | outside(b, m) | (a == b))
+        self.segments.iter().fold(false, |fails, record| {
+            let (a, b) = (record[0], record[1]);
+            fails | outside(a, m) | outside(b, m) | (a == b) | (way(record) > B_TO_A)
+        })
     }
 
     /// 7: kind, needed and unused places, equal branches, position.
@@ -150,7 +172,8 @@ impl<'a> Records<'a> {
     fn has_loop(&self) -> bool {
         let mut ending = [0u8; MAX_BOXES + 1];
         let mut beyond = [[0u8; 2]; MAX_BOXES + 1];
-        for &[a, b] in self.segments {
+        for record in self.segments {
+            let (a, b) = (record[0], record[1]);
             ending[usize::from(b)] += 1;
             let [first, second] = &mut beyond[usize::from(a)];
             (*first, *second) = (b, *first);
@@ -199,6 +222,12 @@ impl<'a> Records<'a> {
     fn firsts_clash(&self) -> bool {
         let firsts = self.routes().iter().fold(0u128, |firsts, (_, route)| firsts | 1 << route[0]);
         firsts.count_ones() as usize != self.trains
+    }
+
+    /// 32: a train that starts against the way of its first segment.
+    fn starts_against(&self) -> bool {
+        let first_way = |route: &[u8]| way(&self.segments[usize::from(route[0]) - 1]);
+        N > 2 && self.routes().iter().any(|&(direction, route)| against(first_way(route), direction))
     }
 }
 

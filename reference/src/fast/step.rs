@@ -1,4 +1,4 @@
-//! Steps: kinds 1 to 10, codes 13 to 25, 29 and 30.
+//! Steps: kinds 1 to 10, codes 13 to 25 and 29 to 31.
 
 use super::line::{Line, Message, State, Train};
 use crate::line::{Request, Wish};
@@ -68,7 +68,11 @@ impl Line {
                 let at_ahead = request.number == around.ahead;
                 let slot = if at_ahead { around.next_ahead } else { around.next_beyond };
                 let holder = &mut self.holders[usize::from(slot)];
-                if *holder != 0 && *holder != me {
+                if *holder == me {
+                    0
+                } else if around.against {
+                    31
+                } else if *holder != 0 {
                     22
                 } else {
                     *holder = me;

@@ -6,15 +6,19 @@ use crate::table::*;
 use crate::table_write::file_bytes;
 
 /// The codes of records in the order in which they are looked at, 11 and 28 together.
-const RECORD_CODES: [u8; 8] = [6, 7, 8, 9, 10, 11, 28, 12];
+const RECORD_CODES: [u8; 9] = [6, 7, 8, 9, 10, 11, 28, 12, 32];
 
-/// The file of a table, damaged in a way meant for code `aim`. Other aims below 20 put more than one damage in
+/// Aims below this are of every sort.
+pub const DAMAGES: u8 = 22;
+
+/// The file of a table, damaged in a way meant for code `aim`. Other aims below `DAMAGES` put more than one damage in
 /// a table, so that the order of codes shows: 13 and 14 two of any codes, 15 to 17 some faults on routes, 18
-/// some faults of trains. 19 is meant for code 28 too. Any other aim damages blindly.
+/// some faults of trains. 19 is meant for code 28 too, 20 for 32, now and then beside 12, 21 for 6 by the way of a
+/// segment. Any other aim damages blindly.
 pub fn damaged_file(rng: &mut Prng, table: &Table, aim: u8) -> Vec<u8> {
     let mut t = table.clone();
     match aim {
-        6..=12 | 28 => damage_table(rng, &mut t, aim),
+        6..=12 | 28 | 32 => damage_table(rng, &mut t, aim),
         13 | 14 => {
             let later = rng.between(1, RECORD_CODES.len() - 1);
             let earlier = rng.below(later);
@@ -24,12 +28,20 @@ pub fn damaged_file(rng: &mut Prng, table: &Table, aim: u8) -> Vec<u8> {
         15..=17 => damage_routes(rng, &mut t),
         18 => damage_trains(rng, &mut t),
         19 => damage_table(rng, &mut t, 28),
+        20 => {
+            damage_table(rng, &mut t, 32);
+            if rng.chance(20) {
+                repeat_first(rng, &mut t);
+            }
+        }
+        21 => damage_way(rng, &mut t),
         _ => {}
     }
     let mut file = file_bytes(&t);
     match aim {
         1 => file.truncate(rng.below(8)),
         2 => file[rng.below(3)] ^= 1 << rng.below(8),
+        3 if rng.chance(40) => file[4] = 3,
         3 => file[3 + rng.below(2)] ^= 1 << rng.below(8),
         4 => {
             let field = rng.below(3);
@@ -37,7 +49,7 @@ pub fn damaged_file(rng: &mut Prng, table: &Table, aim: u8) -> Vec<u8> {
             file[5 + field] = rng.pick(wrong[field]);
         }
         5 => change_length(rng, &t, &mut file),
-        6..=19 | 28 => {}
+        6..=21 | 28 | 32 => {}
         _ => blind_damage(rng, &mut file),
     }
     file
@@ -63,6 +75,7 @@ fn damage_table(rng: &mut Prng, t: &mut Table, aim: u8) {
         8 => damage_listing(rng, t),
         9 => close_loop(rng, t),
         12 => repeat_first(rng, t),
+        32 => start_against(rng, t),
         _ if t.trains.is_empty() => {}
         10 => {
             let at = rng.below(t.trains.len());
@@ -75,9 +88,10 @@ fn damage_table(rng: &mut Prng, t: &mut Table, aim: u8) {
     }
 }
 
-/// 5: bytes missing or too many, or a route length that is not true.
+/// 5: bytes missing or too many, the records of the other version, or a route length that is not true.
 fn change_length(rng: &mut Prng, t: &Table, file: &mut Vec<u8>) {
-    match rng.below(3) {
+    match rng.below(4) {
+        3 => file[4] = (VERSION_1 + VERSION_2 - t.version) as u8,
         0 => file.truncate(rng.between(8, file.len() - 1)),
         1 => {
             for _ in 0..rng.between(1, 5) {
@@ -85,7 +99,7 @@ fn change_length(rng: &mut Prng, t: &Table, file: &mut Vec<u8>) {
             }
         }
         _ => {
-            let at = 8 + 2 * t.segments.len() + 5 * t.boxes.len() + 1;
+            let at = network_bytes(t.version, t.segments.len(), t.boxes.len()) + 1;
             match file.get_mut(at) {
                 Some(r) => *r = r.wrapping_add(1 + rng.below(255) as u8),
                 None => file.push(0),
@@ -94,15 +108,35 @@ fn change_length(rng: &mut Prng, t: &Table, file: &mut Vec<u8>) {
     }
 }
 
-/// 6: an end without box, or both ends at one.
+/// 6: a way above 2, in version 2.
+fn damage_way(rng: &mut Prng, t: &mut Table) {
+    let at = rng.below(t.segments.len());
+    t.version = VERSION_2;
+    t.segments[at].way = rng.pick(&[3, 3, 4, 255]);
+}
+
+/// 32: train 1, the last one or any one starts against the way of its segment, in version 2.
+fn start_against(rng: &mut Prng, t: &mut Table) {
+    let any = rng.below(t.trains.len());
+    let at = rng.pick(&[0, any, t.trains.len().saturating_sub(1)]);
+    let Some(TrainEntry { direction, route }) = t.trains.get(at).filter(|train| !train.route.is_empty()) else {
+        return;
+    };
+    if let Some(segment) = t.segments.get_mut(usize::from(route[0]).wrapping_sub(1)) {
+        (segment.way, t.version) = (way_against(*direction), VERSION_2);
+    }
+}
+
+/// 6: an end without box, or both ends at one; or a way that there is not.
 fn damage_ends(rng: &mut Prng, t: &mut Table) {
     let at = rng.below(t.segments.len());
     let wrong = rng.pick(&[0, t.boxes.len() as u8 + 1, 255]);
     let s = &mut t.segments[at];
-    match rng.below(3) {
+    match rng.below(4) {
         0 => s.a = wrong,
         1 => s.b = wrong,
-        _ => s.a = s.b,
+        2 => s.a = s.b,
+        _ => damage_way(rng, t),
     }
 }
 

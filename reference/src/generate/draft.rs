@@ -79,7 +79,7 @@ impl Draft {
     /// Adds an open segment from the box to be added.
     fn put_open(&mut self) -> u8 {
         let a = (self.boxes.len() + 1) as u8;
-        self.segments.push(Segment { a, b: 0 });
+        self.segments.push(Segment { a, ..Segment::default() });
         let segment = self.segments.len() as u8;
         self.open.push(segment);
         segment

@@ -78,24 +78,25 @@ fn hex(bytes: &[u8]) -> String {
 /// The bytes of a file whose head and records, if it has any, are whole; a record a line.
 pub fn file_text(file: &[u8]) -> String {
     let mut text = String::new();
-    let &[_, _, _, _, _, n, m, k, ref rest @ ..] = file else {
+    let &[_, _, _, high, low, n, m, k, ref rest @ ..] = file else {
         add(&mut text, &hex(file), if file.is_empty() { "no byte at all" } else { "less than a head" });
         return text;
     };
-    text += &record_text("head", &file[..8]);
+    text += &record_text("head", &file[..HEAD_BYTES]);
     if rest.is_empty() {
         return text;
     }
-    let (segments, rest) = rest.split_at(2 * n as usize);
-    for (i, record) in segments.chunks(2).enumerate() {
+    let size = segment_bytes(u16::from_be_bytes([high, low]));
+    let (segments, rest) = rest.split_at(size * n as usize);
+    for (i, record) in segments.chunks(size).enumerate() {
         text += &record_text(&format!("segment {}", i + 1), record);
     }
-    let (boxes, mut rest) = rest.split_at(5 * m as usize);
-    for (i, record) in boxes.chunks(5).enumerate() {
+    let (boxes, mut rest) = rest.split_at(BOX_BYTES * m as usize);
+    for (i, record) in boxes.chunks(BOX_BYTES).enumerate() {
         text += &record_text(&format!("box {}", i + 1), record);
     }
     for train in 1..=k {
-        let (record, after) = rest.split_at(2 + rest[1] as usize);
+        let (record, after) = rest.split_at(TRAIN_BYTES + rest[1] as usize);
         text += &record_text(&format!("train {train}"), record);
         rest = after;
     }
@@ -110,6 +111,7 @@ pub fn record_text(name: &str, record: &[u8]) -> String {
             format!("version {}, n = {n}, m = {m}, k = {k}", u16::from_be_bytes([high, low]))
         }
         (Some("segment"), [a, b]) => format!("A end at box {a}, B end at box {b}"),
+        (Some("segment"), [a, b, way]) => format!("A end at box {a}, B end at box {b}, {}", way_words(*way)),
         (Some("box"), record) => box_words(record),
         (Some("train"), [direction, length, route @ ..]) => {
             let length = if *length as usize == route.len() { String::new() } else { format!("length {length}, ") };
@@ -122,6 +124,16 @@ pub fn record_text(name: &str, record: &[u8]) -> String {
     let mut text = String::new();
     add(&mut text, &hex(record), &format!("{name}: {words}"));
     text
+}
+
+/// The way of a segment in words.
+fn way_words(way: u8) -> String {
+    match way {
+        BOTH_WAYS => "both ways".into(),
+        A_TO_B => "A to B only".into(),
+        B_TO_A => "B to A only".into(),
+        _ => format!("direction {way}"),
+    }
 }
 
 /// The record of a box in words.

@@ -90,7 +90,7 @@ pub fn message_change(rng: &mut Prng, line: &Line, i: usize, wish: Wish) -> Vec<
     };
     let number = if wish.of_lock() { ahead } else { rng.pick(&[near, far]) };
     let no = match wish {
-        Wish::Reservation => 22,
+        Wish::Reservation => rng.pick(&[22, 31]),
         Wish::Lock => rng.between(23, 25) as u8,
         Wish::ReservationBack | Wish::LockBack => 0,
     };
@@ -118,7 +118,7 @@ fn unused_change(rng: &mut Prng, line: &Line) -> Option<Change> {
     let route = line.trains[i].route.len();
     let planned = line.table.trains[i].route.len();
     match rng.below(6) {
-        0 if n < MAX_SEGMENTS => Some([b's', n as u8, 0, value]),
+        0 if n < MAX_SEGMENTS => Some([b's', n as u8, rng.below(3) as u8, value]),
         1 if m < MAX_BOXES => Some([b'p', m as u8, 0, value]),
         2 if m < MAX_BOXES => Some([b'b', m as u8, 2, value]),
         3 if k < MAX_TRAINS => Some([b't', k as u8, 3, value]),

@@ -13,7 +13,19 @@ pub enum Holder {
     Another,
 }
 
-const HOLDERS: [Holder; 3] = [Holder::Nobody, Holder::Asker, Holder::Another];
+/// All of them, in their order.
+pub const HOLDERS: [Holder; 3] = [Holder::Nobody, Holder::Asker, Holder::Another];
+
+impl Holder {
+    /// Whom a box holds something for, if a train asks.
+    pub fn of(holder: u8, asker: u8) -> Holder {
+        match holder {
+            0 => Holder::Nobody,
+            _ if holder == asker => Holder::Asker,
+            _ => Holder::Another,
+        }
+    }
+}
 
 /// What the box finds.
 #[derive(Clone, Copy, Debug, PartialEq, Eq)]
@@ -44,11 +56,7 @@ impl LockAsked {
         let Message::Sent(Request { wish: Wish::Lock, number: at }) = t.message else {
             return None;
         };
-        let who = |holder: u8| match holder {
-            0 => Holder::Nobody,
-            _ if holder == train => Holder::Asker,
-            _ => Holder::Another,
-        };
+        let who = |holder: u8| Holder::of(holder, train);
         let state = line.box_state(at).filter(|_| (kind, number) == (3, 0))?;
         Some(LockAsked {
             sensor: state.sensor,

@@ -1,5 +1,6 @@
 //! What becomes of messages that are lost and sent again, counted by kind.
 
+use crate::counts::says_no;
 use crate::line::{Line, Message, Request, Wish, WISHES};
 use crate::numbers::message_numbers;
 use crate::step::Step;
@@ -77,7 +78,7 @@ impl LostCounts {
                 self.again[row(request.wish)] += 1;
                 self.repeated[i] = true;
             }
-            (3, 0 | 22..=25, Message::Sent(request)) if self.repeated[i] => {
+            (3, _, Message::Sent(request)) if self.repeated[i] && (code == 0 || says_no(code)) => {
                 let found = found(request.wish, holder, i as u8 + 1, code);
                 self.found[row(request.wish)][found as usize] += 1;
             }

@@ -1,146 +1,25 @@
 //! Made-up records: changes of a line that steps have reached, directed at one clause of code 27 or
 //! at none. What comes out has to be looked at: a change may miss its aim.
 
+pub use super::aim::{Aim, AIMS};
 use super::harmless::{harmless, message_change, message_field, Stage};
 use super::lock_asked::{Holder, LockAsked};
 use super::prng::Prng;
+use super::ways::{fits_way, starts_against, table_way_changes, way_asked};
 use crate::line::*;
-use crate::line_check::RecordFault;
 use crate::numbers::ends_of_next;
 use crate::record::Change;
 use crate::step::Step;
 use crate::step_request::is_point;
 use crate::table::*;
 
-/// What a made-up record is to break.
-#[derive(Clone, Copy, Debug, PartialEq, Eq)]
-pub enum Aim {
-    /// The table part, with this code.
-    Table(u8),
-    /// A train's direction as it stands.
-    Direction,
-    /// A train's route length as it stands.
-    Length,
-    /// A segment of a train's route as it stands that the table lacks.
-    Route,
-    /// A train's route as it stands jumps, in this direction, and has all its segments in the table.
-    Jump(u8),
-    PlaceZero,
-    PlaceBeyond,
-    TailOutside,
-    CoversNone,
-    CoversThree,
-    Position,
-    /// A holder above k: of the lock, or at a place.
-    LockHolder,
-    StemHolder,
-    LeftHolder,
-    RightHolder,
-    /// A message of a train with no next (16).
-    NoNext,
-    /// A message for a box that 17 would stop, sent or answered.
-    WrongBox,
-    /// An answer's code that is none of the box's.
-    AnswerCode,
-    /// The same three of a give-back of this kind, 7 or 8.
-    BackNoNext(u8),
-    BackWrongBox(u8),
-    BackCode(u8),
-    /// The first two of a lost message.
-    LostNoNext,
-    LostWrongBox,
-    /// Nothing: the record passes.
-    Nothing,
-    /// Nothing: a box is to answer a lock, with anything that it can find there.
-    LockAsked,
-    /// Nothing: a train is to hear this code in answer to a lock.
-    LockHeard(u8),
-    /// Nothing: a box is to answer a reservation that it has granted to the train already.
-    ReservedAsked,
-    /// Nothing: a box is to answer a give-back of this kind, 7 or 8, of what is free or another's.
-    BackOfNone(u8),
-    /// Nothing: a train whose message is lost takes a step of any kind.
-    LostWaits,
-    /// Nothing: the message of a train, or no message, is to be lost or sent again.
-    Radio,
-}
-
-pub const AIMS: [Aim; 47] = [
-    Aim::Table(3),
-    Aim::Table(4),
-    Aim::Table(6),
-    Aim::Table(7),
-    Aim::Table(8),
-    Aim::Table(9),
-    Aim::Table(10),
-    Aim::Table(11),
-    Aim::Table(12),
-    Aim::Table(28),
-    Aim::Direction,
-    Aim::Length,
-    Aim::Route,
-    Aim::Jump(0),
-    Aim::Jump(1),
-    Aim::PlaceZero,
-    Aim::PlaceBeyond,
-    Aim::TailOutside,
-    Aim::CoversNone,
-    Aim::CoversThree,
-    Aim::Position,
-    Aim::LockHolder,
-    Aim::StemHolder,
-    Aim::LeftHolder,
-    Aim::RightHolder,
-    Aim::NoNext,
-    Aim::WrongBox,
-    Aim::AnswerCode,
-    Aim::BackNoNext(7),
-    Aim::BackNoNext(8),
-    Aim::BackWrongBox(7),
-    Aim::BackWrongBox(8),
-    Aim::BackCode(7),
-    Aim::BackCode(8),
-    Aim::LostNoNext,
-    Aim::LostWrongBox,
-    Aim::Nothing,
-    Aim::LockAsked,
-    Aim::LockHeard(0),
-    Aim::LockHeard(23),
-    Aim::LockHeard(24),
-    Aim::LockHeard(25),
-    Aim::ReservedAsked,
-    Aim::BackOfNone(7),
-    Aim::BackOfNone(8),
-    Aim::LostWaits,
-    Aim::Radio,
-];
-
-impl Aim {
-    /// The clause of 27 that the record is to break first.
-    pub fn clause(self) -> Option<RecordFault> {
-        Some(match self {
-            Aim::Table(code) => RecordFault::TablePart(code),
-            Aim::Direction | Aim::Length => RecordFault::Route(10),
-            Aim::Route => RecordFault::Route(11),
-            Aim::Jump(_) => RecordFault::Route(28),
-            Aim::PlaceZero | Aim::PlaceBeyond | Aim::TailOutside => RecordFault::OutsideRoute,
-            Aim::CoversNone | Aim::CoversThree => RecordFault::Covering,
-            Aim::Position => RecordFault::Position,
-            Aim::LockHolder | Aim::StemHolder | Aim::LeftHolder | Aim::RightHolder => RecordFault::Holder,
-            Aim::NoNext | Aim::WrongBox | Aim::BackNoNext(_) | Aim::BackWrongBox(_) => RecordFault::Message,
-            Aim::LostNoNext | Aim::LostWrongBox => RecordFault::Message,
-            Aim::AnswerCode | Aim::BackCode(_) => RecordFault::AnswerCode,
-            Aim::Nothing | Aim::LockAsked | Aim::LockHeard(_) => return None,
-            Aim::ReservedAsked | Aim::BackOfNone(_) | Aim::LostWaits | Aim::Radio => return None,
-        })
-    }
-}
-
 /// Changes of the line for an aim; `None` where it has nothing to change for it. At most one field
 /// is at fault, but where a fault needs more.
 pub fn changes(rng: &mut Prng, line: &Line, aim: Aim) -> Option<Vec<Change>> {
-    if let Aim::Table(code) = aim {
-        return table_changes(rng, &line.table, code);
+    match aim {
+        Aim::WayInVersion1 | Aim::WayAboveTwo | Aim::Table(32) => return table_way_changes(rng, &line.table, aim),
+        Aim::Table(code) => return table_changes(rng, &line.table, code),
+        _ => {}
     }
     let m = line.boxes.len();
     let k = line.trains.len();
@@ -221,7 +100,10 @@ fn fits(line: &Line, i: usize, aim: Aim) -> bool {
         Aim::CoversThree => idle && train.route.len() >= 3,
         Aim::WrongBox | Aim::AnswerCode | Aim::BackWrongBox(_) | Aim::BackCode(_) => train.next_segment().is_some(),
         Aim::LostWrongBox | Aim::ReservedAsked | Aim::BackOfNone(7) | Aim::LostWaits => train.next_segment().is_some(),
-        Aim::LockAsked | Aim::LockHeard(_) | Aim::BackOfNone(_) => {
+        Aim::WayHeard | Aim::WayCode(7) => train.next_segment().is_some(),
+        Aim::WayAsked(2) if line.trains.len() < 2 => false,
+        Aim::WayAsked(_) | Aim::StartsAgainst => fits_way(line, i, aim),
+        Aim::LockAsked | Aim::LockHeard(_) | Aim::BackOfNone(_) | Aim::WayCode(_) => {
             ends_of_next(line, i).is_some_and(|(.., ahead)| is_point(line, ahead))
         }
         _ => true,
@@ -279,6 +161,14 @@ fn train_changes(rng: &mut Prng, line: &Line, i: usize, aim: Aim) -> Vec<Change>
         Aim::LockHeard(code) => {
             vec![message_field(t, Wish::Lock, Stage::Answered, line.box_ahead(i)), [b'm', t, 5, code]]
         }
+        Aim::WayHeard | Aim::WayCode(_) => {
+            let ends = ends_of_next(line, i).map_or([0; 2], |(_, near, far, _)| [near, far]);
+            let wish = wish_of(rng, aim);
+            let number = if wish.of_lock() { line.box_ahead(i) } else { rng.pick(&ends) };
+            vec![message_field(t, wish, Stage::Answered, number), [b'm', t, 5, 31]]
+        }
+        Aim::WayAsked(holder) => way_asked(rng, line, i, holder),
+        Aim::StartsAgainst => starts_against(line, i),
         Aim::ReservedAsked => held_message(rng, line, i, Wish::Reservation, Stage::Sent, &[t + 1]),
         Aim::BackOfNone(_) => {
             let others: Vec<u8> = (0..=line.trains.len() as u8).filter(|&holder| holder != t + 1).collect();
@@ -297,8 +187,8 @@ fn train_changes(rng: &mut Prng, line: &Line, i: usize, aim: Aim) -> Vec<Change>
         _ => {
             let (ahead, wish) = (line.box_ahead(i), wish_of(rng, aim));
             let code = match aim {
-                Aim::BackCode(_) => rng.pick(&[1, 18, 22, 22, 23, 24, 25, 29, 255]),
-                _ => rng.pick(&[1, 15, 21, 22, 23, 24, 25, 26, 27, 29, 255]),
+                Aim::BackCode(_) => rng.pick(&[1, 18, 22, 22, 23, 24, 25, 29, 31, 255]),
+                _ => rng.pick(&[1, 15, 21, 22, 23, 24, 25, 26, 27, 29, 31, 32, 255]),
             };
             vec![message_field(t, wish, Stage::Answered, ahead), [b'm', t, 5, code]]
         }
@@ -328,6 +218,8 @@ fn wish_of(rng: &mut Prng, aim: Aim) -> Wish {
         Aim::BackNoNext(kind) | Aim::BackWrongBox(kind) | Aim::BackCode(kind) | Aim::BackOfNone(kind) => {
             Wish::of_kind(kind).expect("the kind of a give-back")
         }
+        Aim::WayCode(kind) => Wish::of_kind(kind).expect("the kind of a message"),
+        Aim::WayHeard => Wish::Reservation,
         Aim::LostNoNext | Aim::LostWrongBox => rng.pick(&WISHES),
         _ => rng.pick(&[Wish::Reservation, Wish::Lock]),
     }
@@ -353,7 +245,7 @@ fn table_changes(rng: &mut Prng, table: &Table, code: u8) -> Option<Vec<Change>>
     }
     let i = rng.below(k) as u8;
     Some(match code {
-        3 => vec![rng.pick(&[[b'h', 0, 0, 1], [b'h', 0, 0, 255], [b'h', 0, 1, 0], [b'h', 0, 1, 2], [b'h', 0, 1, 255]])],
+        3 => vec![rng.pick(&[[b'h', 0, 0, 1], [b'h', 0, 0, 255], [b'h', 0, 1, 0], [b'h', 0, 1, 3], [b'h', 0, 1, 255]])],
         4 => {
             let (field, values): (u8, &[u8]) = rng.pick(&[(2, &[0, 97, 255]), (3, &[0, 1, 97, 255]), (4, &[17, 255])]);
             vec![[b'h', 0, field, rng.pick(values)]]
@@ -416,7 +308,8 @@ fn joined_borders(table: &Table) -> Option<Vec<Change>> {
 pub fn step_on(rng: &mut Prng, line: &Line, changes: &[Change], aim: Aim) -> Step {
     match (aim, changes) {
         (Aim::LockAsked | Aim::ReservedAsked | Aim::BackOfNone(_), &[[_, train, ..], ..]) => return [3, train + 1, 0],
-        (Aim::LockHeard(_), &[[_, train, ..], ..]) => return [4, train + 1, 0],
+        (Aim::WayAsked(_), &[[_, train, ..], ..]) => return [3, train + 1, 0],
+        (Aim::LockHeard(_) | Aim::WayHeard, &[[_, train, ..], ..]) => return [4, train + 1, 0],
         (Aim::LostWaits, &[[_, train, ..], ..]) => {
             let kind = rng.pick(&[1, 2, 3, 4, 5, 6, 7, 8, 9, 10, 10]);
             let number = if matches!(kind, 1 | 2 | 7 | 8) { line.box_ahead(usize::from(train)) } else { 0 };

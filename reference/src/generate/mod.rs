@@ -2,6 +2,7 @@
 //! gives the same cases on every machine. Beside them the smallest example
 //! of each code, found by search.
 
+pub mod aim;
 pub mod damage;
 pub mod draft;
 pub mod example;
@@ -16,3 +17,5 @@ pub mod small_tables;
 pub mod smallest;
 pub mod steps;
 pub mod tables;
+pub mod way_asked;
+pub mod ways;

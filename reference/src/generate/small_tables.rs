@@ -1,18 +1,16 @@
 //! Table files of one length, those with the lowest bytes first: the first byte that differs decides.
 //!
 //! A byte of a record takes every value up to the first one above its limits. Higher ones need no trial:
-//! an end above m, a kind or a position above 2, a place or a route's segment above n and a direction
+//! an end above m, a way, a kind or a position above 2, a place or a route's segment above n and a direction
 //! above 1 are refused whatever their value is, so that the lowest such value stands for all of them.
 
 use crate::table::*;
-use crate::table_check::{box_fails, ends_fail, has_loop, route_code, side_at};
+use crate::table_check::{box_fails, ends_fail, has_loop, route_code, side_at, way_fails};
 use crate::table_write::file_bytes;
-
-/// Bytes before the first record.
-pub const HEAD: usize = 8;
 
 /// The files that are looked at.
 pub struct Files<'a> {
+    pub version: u16,
     pub length: usize,
     /// Records pass all codes of theirs before this one, 11 and 28 being one; all codes where it is 0.
     pub code: u8,
@@ -27,23 +25,23 @@ pub struct Files<'a> {
 pub type Found<'a, T> = &'a mut dyn FnMut(&Table) -> Option<T>;
 
 impl<'a> Files<'a> {
-    /// All accepted files of a length with so many trains or more, and some that 12 refuses.
-    pub fn accepted(length: usize, trains: usize) -> Files<'a> {
-        Files { length, code: 0, trains, differences: 0, like: &[] }
+    /// All accepted files of a version and a length with so many trains or more, and some that 12 or 32 refuses.
+    pub fn accepted(version: u16, length: usize, trains: usize) -> Files<'a> {
+        Files { version, length, code: 0, trains, differences: 0, like: &[] }
     }
 
     /// What `found` gives for the first table for which it gives something. No table has codes 1 to 5.
     pub fn first<T>(&self, found: Found<T>) -> Option<T> {
-        let room = self.length.checked_sub(HEAD)?;
+        let (version, length) = (self.version, self.length);
         let trains = self.trains..=MAX_TRAINS;
         let shapes = (MIN_SEGMENTS..=MAX_SEGMENTS).flat_map(|n| {
-            let boxes = (MIN_BOXES..=MAX_BOXES).take_while(move |m| 2 * n + 5 * m <= room);
+            let boxes = (MIN_BOXES..=MAX_BOXES).take_while(move |&m| network_bytes(version, n, m) <= length);
             let trains = trains.clone();
             boxes.flat_map(move |m| trains.clone().map(move |k| (n, m, k)))
         });
-        shapes.filter(|&(n, m, k)| self.routes_fit(room, n, m, k)).find_map(|(n, m, k)| {
+        shapes.filter(|&(n, m, k)| self.routes_fit(n, m, k)).find_map(|(n, m, k)| {
             let mut table = Table {
-                version: VERSION,
+                version,
                 segments: vec![Segment::default(); n],
                 boxes: vec![SwitchBox::default(); m],
                 trains: vec![TrainEntry::default(); k],
@@ -54,10 +52,11 @@ impl<'a> Files<'a> {
 
     /// Whether the bytes beside the other records can be those of k routes: a route has a segment (10), and
     /// where there is no loop it passes none twice.
-    fn routes_fit(&self, room: usize, n: usize, m: usize, k: usize) -> bool {
+    fn routes_fit(&self, n: usize, m: usize, k: usize) -> bool {
         let least = if self.past(10) { k } else { 0 };
         let most = if self.past(11) { k * n } else { k * u8::MAX as usize };
-        room.checked_sub(2 * n + 5 * m + 2 * k).is_some_and(|bytes| (least..=most).contains(&bytes))
+        let others = network_bytes(self.version, n, m) + TRAIN_BYTES * k;
+        self.length.checked_sub(others).is_some_and(|bytes| (least..=most).contains(&bytes))
     }
 
     /// Whether records are to pass this code. 28 is looked for together with 11.
@@ -80,11 +79,14 @@ impl<'a> Files<'a> {
             return if stopped { None } else { self.boxes(table, 0, found) };
         }
         let most = table.boxes.len() as u8 + 1;
-        for (a, b) in (0..=most).flat_map(|a| (0..=most).map(move |b| (a, b))) {
-            table.segments[i] = Segment { a, b };
-            let ends = !self.past(6) || !ends_fail(table, &table.segments[i]);
-            let passes = ends && (!self.past(8) || few_ends(table, i));
-            if passes && self.near(table, HEAD + 2 * (i + 1)) {
+        let ways = if self.version == VERSION_1 { BOTH_WAYS..=BOTH_WAYS } else { BOTH_WAYS..=B_TO_A + 1 };
+        let ends = (0..=most).flat_map(|a| (0..=most).map(move |b| (a, b)));
+        for (a, b, way) in ends.flat_map(|(a, b)| ways.clone().map(move |way| (a, b, way))) {
+            let segment = Segment { a, b, way };
+            table.segments[i] = segment;
+            let fits = !self.past(6) || !(ends_fail(table, &segment) || way_fails(&segment));
+            let passes = fits && (!self.past(8) || few_ends(table, i));
+            if passes && self.near(table, network_bytes(self.version, i + 1, 0)) {
                 if let Some(result) = self.segments(table, i + 1, found) {
                     return Some(result);
                 }
@@ -104,7 +106,7 @@ impl<'a> Files<'a> {
         for plan in plans(&places) {
             table.boxes[i] = plan;
             let passes = (!self.past(7) || !box_fails(table, &plan)) && (!self.past(8) || fits_track(table, i));
-            if passes && self.near(table, HEAD + 2 * table.segments.len() + 5 * (i + 1)) {
+            if passes && self.near(table, network_bytes(self.version, table.segments.len(), i + 1)) {
                 if let Some(result) = self.boxes(table, i + 1, found) {
                     return Some(result);
                 }
@@ -171,7 +173,7 @@ fn plans(places: &[u8]) -> impl Iterator<Item = SwitchBox> + '_ {
 
 /// Whether the boxes of segment `i`, from 0, have room for the segments up to it: a box lists three.
 fn few_ends(table: &Table, i: usize) -> bool {
-    let Segment { a, b } = table.segments[i];
+    let Segment { a, b, .. } = table.segments[i];
     let ends = |number| table.segments[..=i].iter().filter(|s| s.a == number || s.b == number).count();
     ends(a) <= 3 && ends(b) <= 3
 }

@@ -88,6 +88,10 @@ impl Driver {
         if self.current >= k || rng.chance(25) || finished(line, self.current) {
             self.current = rng.below(k);
         }
+        // A train whose next runs against it comes no further, and asks now and then.
+        if stands_for_good(line, self.current) && rng.chance(60) {
+            self.current = rng.below(k);
+        }
         if finished(line, self.current) {
             let under_way = (0..k).find(|&train| !finished(line, train));
             self.current = under_way.unwrap_or(self.current);
@@ -162,6 +166,12 @@ fn finished(line: &Line, train: usize) -> bool {
     t.next_segment().is_none() && !t.crossing()
 }
 
+/// Whether next of the train runs against its way.
+fn stands_for_good(line: &Line, train: usize) -> bool {
+    let t = &line.trains[train];
+    t.next_segment().is_some_and(|next| line.table.runs_against(next, t.direction))
+}
+
 /// What a train must have to enter next, as requests: next at the box ahead
 /// and beyond, and the lock of a point; with whether it has it recorded.
 fn all_needed(line: &Line, train: usize) -> Vec<(Step, bool)> {
@@ -227,6 +237,7 @@ impl Driver {
         match needs.first() {
             None if t.crossing() => [6, me, 0],
             None => [5, me, 0],
+            Some(_) if stands_for_good(line, self.current) => rng.pick(&needs),
             Some(&first) if rng.chance(80) => first,
             Some(_) => rng.pick(&needs),
         }

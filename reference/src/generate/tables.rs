@@ -1,8 +1,9 @@
 //! Accepted tables: grown networks, renumbered in shuffled order, with
-//! trains of both directions.
+//! trains of both directions, of both versions.
 
 use super::draft::{Draft, Style};
 use super::prng::Prng;
+use super::ways::any_version;
 use crate::table::*;
 
 const STYLES: [Style; 5] = [
@@ -32,11 +33,20 @@ pub fn accepted_table(rng: &mut Prng) -> Table {
         1 | 2 => rng.between(1, 6),
         _ => rng.between(4, MAX_TRAINS),
     };
-    table_of(rng, style, most, trains)
+    let mut table = table_of(rng, style, most, trains);
+    any_version(rng, &mut table);
+    table
 }
 
 /// An accepted table with 96 segments and 16 trains.
 pub fn largest_table(rng: &mut Prng) -> Table {
+    let mut table = largest_both_ways(rng);
+    any_version(rng, &mut table);
+    table
+}
+
+/// An accepted table of version 1 with 96 segments and 16 trains.
+pub fn largest_both_ways(rng: &mut Prng) -> Table {
     loop {
         let style = rng.pick(&[STYLES[1], STYLES[4], STYLES[0]]);
         let table = table_of(rng, style, MAX_SEGMENTS, MAX_TRAINS);
@@ -46,7 +56,7 @@ pub fn largest_table(rng: &mut Prng) -> Table {
     }
 }
 
-/// A table of one style with so many segments and trains at most.
+/// A table of version 1, of one style, with so many segments and trains at most.
 pub fn table_of(rng: &mut Prng, style: Style, most: usize, trains: usize) -> Table {
     let draft = Draft::grow(rng, style, most);
     let mut table = renumbered(rng, &draft);
@@ -66,14 +76,14 @@ fn renumbered(rng: &mut Prng, draft: &Draft) -> Table {
     };
     let new_box = |old: u8| box_numbers[old as usize - 1];
     let mut table = Table {
-        version: VERSION,
+        version: VERSION_1,
         segments: vec![Segment::default(); draft.segments.len()],
         boxes: vec![SwitchBox::default(); draft.boxes.len()],
         trains: Vec::new(),
     };
     for (i, s) in draft.segments.iter().enumerate() {
         let to = segment_numbers[i] as usize - 1;
-        table.segments[to] = Segment { a: new_box(s.a), b: new_box(s.b) };
+        table.segments[to] = Segment { a: new_box(s.a), b: new_box(s.b), ..*s };
     }
     for (i, b) in draft.boxes.iter().enumerate() {
         table.boxes[box_numbers[i] as usize - 1] = SwitchBox {

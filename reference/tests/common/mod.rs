@@ -21,7 +21,7 @@ pub const S: [u8; 46] = [
 
 /// Faults in the steps that no list of steps from the start of an accepted table shows; the first two of them no
 /// made-up record shows either.
-pub const UNSEEN: [Fault; 7] = [
+pub const UNSEEN: [Fault; 8] = [
     Fault::NextBeforeMessage,
     Fault::RecordsKept,
     Fault::SensorNotAsked,
@@ -29,6 +29,7 @@ pub const UNSEEN: [Fault; 7] = [
     Fault::LockNeedsNextOnly,
     Fault::RowsBeforeGranted,
     Fault::RepeatSetsPosition,
+    Fault::WayBeforeGranted,
 ];
 
 /// Table S with other trains.
@@ -53,7 +54,7 @@ pub fn boxes(records: &[[u8; 5]]) -> Vec<SwitchBox> {
 }
 
 pub fn segments(records: &[[u8; 2]]) -> Vec<Segment> {
-    records.iter().map(|&[a, b]| Segment { a, b }).collect()
+    records.iter().map(|&[a, b]| Segment { a, b, way: 0 }).collect()
 }
 
 /// Takes steps from the start line; each must have the code beside it.

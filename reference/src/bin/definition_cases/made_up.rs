@@ -3,7 +3,7 @@
 use crate::alter_table;
 use crate::text::{line_text, step_text, theorem};
 use reference::generate::lock_asked::{LockAsked, LOCKS_ASKED};
-use reference::generate::made_up::{lock_changes, step_on, Aim};
+use reference::generate::made_up::{changes, lock_changes, step_on, Aim};
 use reference::generate::prng::Prng;
 use reference::generate::steps::{drive, Driver};
 use reference::generate::tables::accepted_table;
@@ -61,6 +61,38 @@ pub fn lock_case(rng: &mut Prng, case: u64, steps: usize) {
     checked_step(&format!("lock-heard-{case}"), &after, [4, answer[1], 0]);
 }
 
+/// What is made up about one-way segments, in turn.
+const WAY_AIMS: [Aim; 9] = [
+    Aim::WayAsked(0),
+    Aim::WayAsked(1),
+    Aim::WayAsked(2),
+    Aim::WayHeard,
+    Aim::WayCode(2),
+    Aim::WayCode(7),
+    Aim::StartsAgainst,
+    Aim::Table(32),
+    Aim::WayAboveTwo,
+];
+
+/// A step on a record with a one-way segment made up, from a line that steps have reached, and, where it is a box's
+/// answer, the answer heard.
+pub fn way_case(rng: &mut Prng, case: u64, steps: usize) {
+    let aim = WAY_AIMS[case as usize % WAY_AIMS.len()];
+    let (line, changes) = loop {
+        let mut line = start_line(&accepted_table(rng));
+        let length = rng.between(0, steps);
+        drive(rng, &mut line, length);
+        if let Some(changes) = changes(rng, &line, aim).filter(|changes| !changes.is_empty()) {
+            break (Record::changed(&line, &changes).line(), changes);
+        }
+    };
+    let bytes = step_on(rng, &line, &changes, aim);
+    let after = checked_step(&format!("way-{case}"), &line, bytes);
+    if let [3, train, _] = bytes {
+        checked_step(&format!("way-heard-{case}"), &after, [4, train, 0]);
+    }
+}
+
 /// Puts another segment of the table at one place of a route as it stands, which then most often jumps.
 fn alter_route(rng: &mut Prng, line: &mut Line) {
     let (train, segment) = (rng.below(line.trains.len()), rng.between(1, line.table.segments.len()) as u8);
@@ -92,7 +124,7 @@ fn alter_for_back(rng: &mut Prng, line: &mut Line) -> Option<Step> {
     let (kind, message) = match rng.below(10) {
         0..=4 => (3, Message::Sent(request)),
         5 | 6 => (4, Message::Answered(request, 0)),
-        7 => (4, Message::Answered(request, rng.pick(&[22, 22, 24, 29]))),
+        7 => (4, Message::Answered(request, rng.pick(&[22, 22, 24, 29, 31]))),
         _ => (wish as u8, Message::None),
     };
     let (table, train) = (&line.table, &mut line.trains[i]);
@@ -121,7 +153,7 @@ fn alter_for_radio(rng: &mut Prng, line: &mut Line) -> Option<Step> {
     }
     let request = Request { wish, number };
     let no = match wish {
-        Wish::Reservation => 22,
+        Wish::Reservation => rng.pick(&[22, 31]),
         Wish::Lock => 24,
         _ => 0,
     };
@@ -195,7 +227,7 @@ fn alter(rng: &mut Prng, line: &mut Line) {
                 0 => Message::Sent(request),
                 1 => Message::Answered(request, 0),
                 2 => Message::Lost(request),
-                _ => Message::Answered(request, rng.between(21, 26) as u8),
+                _ => Message::Answered(request, rng.pick(&[21, 22, 23, 24, 25, 26, 31])),
             };
         }
     }

@@ -1,18 +1,19 @@
 //! Prints generated cases as theorems about the definitions of the crate `rules`, each proved by
 //! computing: codes, stem sides and bytes of files, the writer's buffer, routes, printouts, lines, places,
 //! orders, atomic lines, atomic steps that are stopped, and single steps on records made up from lines that
-//! steps have reached, among them locks answered and heard, with all that a box can find in turn, and messages that
-//! are lost and sent again.
+//! steps have reached, among them locks answered and heard, with all that a box can find in turn, messages that
+//! are lost and sent again, and segments that run against a train. A table is told by the bytes of its file, so that
+//! no record of version 1 has a one-way segment.
 //! `tools/compare-definitions` has them checked.
 //! Arguments: seed, number of cases, steps per case.
 
 mod made_up;
 mod text;
 
-use made_up::{lock_case, made_up_case};
+use made_up::{lock_case, made_up_case, way_case};
 use reference::argument::argument;
 use reference::atomic::{atomic_order, fold_places, WholeLine};
-use reference::generate::damage::damaged_file;
+use reference::generate::damage::{damaged_file, DAMAGES};
 use reference::generate::listing::damaged_listing;
 use reference::generate::prng::Prng;
 use reference::generate::steps::drive;
@@ -22,7 +23,7 @@ use reference::numbers::line_numbers;
 use reference::printout::printout;
 use reference::refusal::numbers_of;
 use reference::step::Step;
-use reference::table::{Table, TrainEntry};
+use reference::table::{Table, TrainEntry, BOTH_WAYS, VERSION_2};
 use reference::table_check::{stem_sides, StemSide};
 use reference::table_read::read_table;
 use reference::table_write::{file_bytes, write_table};
@@ -46,6 +47,7 @@ fn main() {
         atomic_case(&mut rng, case, &table, steps as usize);
         made_up_case(&mut rng, case, &table, steps as usize);
         lock_case(&mut rng, case, steps as usize);
+        way_case(&mut rng, case, steps as usize);
         listing_case(&mut Prng::for_case(seed + 1, case), case, &table);
     }
 }
@@ -124,8 +126,13 @@ fn alter_table(rng: &mut Prng, table: &mut Table) {
     let segment = rng.below(table.segments.len());
     let b = rng.below(table.boxes.len());
     let number = rng.below(5) as u8;
-    match rng.below(12) {
-        0 => table.version = rng.below(3) as u16,
+    let one_way = table.segments.iter().any(|s| s.way != BOTH_WAYS);
+    match rng.below(14) {
+        0 => table.version = rng.pick(if one_way { &[0, 2, 3] } else { &[0, 1, 2, 3] }),
+        12 | 13 => {
+            table.version = VERSION_2;
+            table.segments[segment].way = number;
+        }
         1 => table.segments[segment].a = number,
         2 => table.segments[segment].b = number,
         3 => table.boxes[b].kind = number,
@@ -153,7 +160,7 @@ fn alter_table(rng: &mut Prng, table: &mut Table) {
 /// of the first one.
 fn damaged_case(rng: &mut Prng, case: u64, table: &Table) {
     for damage in 0..4 {
-        let aim = if damage == 0 { rng.between(15, 19) } else { rng.below(20) };
+        let aim = if damage == 0 { rng.between(15, 20) } else { rng.below(usize::from(DAMAGES)) };
         let file = damaged_file(rng, table, aim as u8);
         let (name, bytes) = (format!("{case}-{damage}"), list(&file));
         let refusal = numbers_of(&read_table(&file));

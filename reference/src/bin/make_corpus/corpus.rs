@@ -1,10 +1,11 @@
 //! A corpus under way: its records, the text for them, and what has been counted.
 
-use reference::counts::Counts;
+use reference::counts::{Counts, CODES};
 use reference::generate::listing::ListingCounts;
 use reference::generate::lock_asked::LockCounts;
 use reference::generate::lost::{LostCounts, StateCounts, Watched};
 use reference::generate::made_up::{Aim, AIMS};
+use reference::generate::way_asked::WayCounts;
 use reference::line::{start_line, Line};
 use reference::line_check::record_code;
 use reference::numbers::line_numbers;
@@ -37,8 +38,15 @@ pub struct MadeUp {
     pub step: Step,
 }
 
-/// The corpus.
+/// What boxes find that answer a lock and a reservation, and what becomes of lost messages.
 #[derive(Default)]
+pub struct ListCounts {
+    pub locks: LockCounts,
+    pub ways: WayCounts,
+    pub lost: LostCounts,
+}
+
+/// The corpus.
 pub struct Corpus {
     pub records: Vec<u8>,
     pub text: String,
@@ -50,11 +58,12 @@ pub struct Corpus {
     /// Codes of the steps of lists, and of those on made-up records.
     pub list_codes: Counts,
     pub made_up_codes: Counts,
-    /// What boxes find that answer a lock, in lists and on made-up records.
-    pub list_locks: LockCounts,
+    /// What boxes find and what becomes of messages in lists.
+    pub list: ListCounts,
+    /// What boxes find that answer a lock and a reservation on made-up records, and what message the steps of kinds
+    /// 3, 4, 9 and 10 meet there.
     pub made_up_locks: LockCounts,
-    /// What becomes of lost messages in lists; what message the steps of kinds 3, 4, 9 and 10 meet on made-up records.
-    pub lost: LostCounts,
+    pub made_up_ways: WayCounts,
     pub made_up_states: StateCounts,
     /// How many made-up records have each aim.
     pub aims: Vec<usize>,
@@ -65,7 +74,24 @@ pub struct Corpus {
 
 impl Corpus {
     pub fn new() -> Self {
-        Corpus { aims: vec![0; AIMS.len()], ..Corpus::default() }
+        Corpus {
+            records: vec![],
+            text: String::new(),
+            base: vec![],
+            files: vec![],
+            runs: vec![],
+            made_up: vec![],
+            counts: [0; CODES],
+            list_codes: [0; CODES],
+            made_up_codes: [0; CODES],
+            list: ListCounts::default(),
+            made_up_locks: LockCounts::default(),
+            made_up_ways: WayCounts::default(),
+            made_up_states: StateCounts::default(),
+            aims: vec![0; AIMS.len()],
+            listings: ListingCounts::default(),
+            steps: vec![],
+        }
     }
 
     pub fn file(&mut self, bytes: &[u8]) {
@@ -103,7 +129,7 @@ impl Corpus {
         self.records.extend_from_slice(steps);
         self.steps = steps.to_vec();
         let run = Run { file: self.base.clone(), steps: steps.to_vec() };
-        let answers = run_text(&mut self.text, &run, &mut self.list_locks, &mut self.lost);
+        let answers = run_text(&mut self.text, &run, &mut self.list);
         for code in answers {
             self.list_codes[code as usize] += 1;
         }
@@ -113,7 +139,7 @@ impl Corpus {
     /// The line that the first `taken` bytes of the last list of steps lead to from the base file.
     pub fn line_after(&self, taken: usize) -> Line {
         let table = read_table(&self.base).expect("the base file is accepted");
-        run_steps(&table, &self.steps[..taken], &mut LockCounts::default(), &mut LostCounts::default()).0
+        run_steps(&table, &self.steps[..taken], &mut ListCounts::default()).0
     }
 
     /// A step on this line with changes; its code.
@@ -128,6 +154,7 @@ impl Corpus {
         self.made_up_codes[code as usize] += 1;
         if code != 27 {
             self.made_up_locks.add(&record.line(), bytes);
+            self.made_up_ways.add(&record.line(), bytes);
             self.made_up_states.add(&record.line(), bytes);
         }
         self.aims[AIMS.iter().position(|&a| a == aim).expect("all aims are listed")] += 1;
@@ -174,17 +201,17 @@ fn answer<T>(result: &Result<T, Refusal>) -> String {
     result.as_ref().err().map_or("0".into(), |refusal| refusal.text(','))
 }
 
-/// The line after the steps in these bytes, and the answers, a last step of one or two bytes among them; locks and lost
-/// messages are counted.
-fn run_steps(table: &Table, steps: &[u8], locks: &mut LockCounts, lost: &mut LostCounts) -> (Line, Vec<u8>) {
+/// The line after the steps in these bytes, and the answers, a last step of one or two bytes among them.
+fn run_steps(table: &Table, steps: &[u8], counts: &mut ListCounts) -> (Line, Vec<u8>) {
     let mut line = start_line(table);
-    lost.start();
+    counts.lost.start();
     let answer = |bytes: &[u8]| match bytes.try_into() {
         Ok(whole) => {
-            locks.add(&line, whole);
+            counts.locks.add(&line, whole);
+            counts.ways.add(&line, whole);
             let watched = Watched::of(&line, whole);
             let code = step(&mut line, whole);
-            lost.add(watched, whole, code);
+            counts.lost.add(watched, whole, code);
             code
         }
         Err(_) => 13,
@@ -194,12 +221,12 @@ fn run_steps(table: &Table, steps: &[u8], locks: &mut LockCounts, lost: &mut Los
 }
 
 /// The line of the text for a list of steps; its answers.
-fn run_text(text: &mut String, run: &Run, locks: &mut LockCounts, lost: &mut LostCounts) -> Vec<u8> {
+fn run_text(text: &mut String, run: &Run, counts: &mut ListCounts) -> Vec<u8> {
     let count = run.steps.len().div_ceil(3);
     let table = read_table(&run.file);
     let (line, answers) = match &table {
         Err(_) => (Line::default(), vec![]),
-        Ok(table) => run_steps(table, &run.steps, locks, lost),
+        Ok(table) => run_steps(table, &run.steps, counts),
     };
     let mut buffer = answers.clone();
     buffer.resize(count + 1, UNUSED);

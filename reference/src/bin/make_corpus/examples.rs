@@ -1,4 +1,4 @@
-//! The smallest example of each code 1 to 30, as docs/CODES.md has them.
+//! The smallest example of each code 1 to 32, as docs/CODES.md has them.
 
 use crate::corpus::Corpus;
 use reference::generate::example::Example;

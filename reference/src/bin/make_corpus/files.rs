@@ -3,11 +3,12 @@
 
 use crate::corpus::{Corpus, FEWEST, S, SEED};
 use reference::counts::FILE_CODES;
-use reference::generate::damage::damaged_file;
+use reference::generate::damage::{damaged_file, DAMAGES};
 use reference::generate::draft::Style;
 use reference::generate::listing::{damaged_listing, found_in, FINDINGS};
 use reference::generate::prng::Prng;
 use reference::generate::tables::{accepted_table, largest_table, table_of};
+use reference::generate::ways::{add_ways, any_version};
 use reference::refusal::code_of;
 use reference::table::*;
 use reference::table_read::read_table;
@@ -37,7 +38,11 @@ pub fn accepted(corpus: &mut Corpus) {
         let mut rng = Prng::for_case(SEED, case);
         let table = match case % 10 {
             9 => largest_table(&mut rng),
-            4 => fullest_table(&mut rng),
+            4 => {
+                let mut table = fullest_table(&mut rng);
+                any_version(&mut rng, &mut table);
+                table
+            }
             _ => accepted_table(&mut rng),
         };
         corpus.table(&table);
@@ -53,7 +58,7 @@ pub fn accepted(corpus: &mut Corpus) {
     }
 }
 
-/// An accepted table with 96 segments, 96 boxes, 16 trains and a route of 64.
+/// An accepted table of version 1 with 96 segments, 96 boxes, 16 trains and a route of 64.
 fn fullest_table(rng: &mut Prng) -> Table {
     let style = Style { link: 30, split: 0, merge: 0, diamond: 1, start: 0, close: 0 };
     loop {
@@ -92,7 +97,7 @@ pub fn damaged(corpus: &mut Corpus) {
             }
         }
     }
-    for aim in 13..=20 {
+    for aim in [13, 14, 15, 16, 17, 18, 19, DAMAGES] {
         for _ in 0..6 {
             let mut rng = Prng::for_case(SEED, case);
             case += 1;
@@ -173,8 +178,8 @@ pub fn by_hand(corpus: &mut Corpus) {
     corpus.table(&with(&|t| (t.boxes[1].stem, t.boxes[1].left) = (2, 1)));
     corpus.table(&with(&|t| (t.boxes[2].stem, t.boxes[2].right) = (3, 4)));
     corpus.table(&with(&|t| (t.boxes[1].left, t.boxes[2].left) = (1, 4)));
-    corpus.table(&with(&|t| t.segments.push(Segment { a: 2, b: 3 })));
-    corpus.table(&with(&|t| t.segments.push(Segment { a: 4, b: 1 })));
+    corpus.table(&with(&|t| t.segments.push(Segment { a: 2, b: 3, ..Segment::default() })));
+    corpus.table(&with(&|t| t.segments.push(Segment { a: 4, b: 1, ..Segment::default() })));
     corpus.table(&with(&|t| t.boxes[1].right = 2));
     corpus.table(&with(&|t| t.boxes[2].left = 3));
     corpus.table(&with(&|t| t.boxes.push(SwitchBox { stem: 4, ..SwitchBox::default() })));
@@ -228,14 +233,15 @@ fn ring(size: u8) -> Table {
     let after = |i: u8| i % size + 1;
     let link = |i: u8| SwitchBox { kind: LINK, stem: i, left: after(i), right: 0, position: 0 };
     Table {
-        version: VERSION,
-        segments: (1..=size).map(|i| Segment { a: i, b: after(i) }).collect(),
+        version: VERSION_1,
+        segments: (1..=size).map(|i| Segment { a: i, b: after(i), way: BOTH_WAYS }).collect(),
         boxes: (1..=size).map(|i| link(if i == 1 { size } else { i - 1 })).collect(),
         trains: vec![],
     }
 }
 
-/// The fullest table with one segment, box or train more; and the longest file that has no code below 10.
+/// The fullest table with one segment, box or train more; and, of each version, the longest file that has no code below
+/// 10.
 fn beyond_limits(corpus: &mut Corpus) {
     let full = fullest_table(&mut Prng::for_case(SEED, 500));
     let mut table = full.clone();
@@ -252,6 +258,10 @@ fn beyond_limits(corpus: &mut Corpus) {
         train.route = vec![train.route[0]; 255];
     }
     corpus.table(&table);
+    let mut one_way = table.clone();
     table.trains[15].route.clear();
     corpus.table(&table);
+    add_ways(&mut Prng::for_case(SEED, 501), &mut one_way);
+    corpus.table(&one_way);
+    assert_eq!(corpus.base.len(), LONGEST_FILE);
 }

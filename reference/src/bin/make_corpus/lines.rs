@@ -18,11 +18,12 @@ const S_STEPS: &[u8] = include_bytes!("../../../../samples/s/steps");
 const RARE: [(u8, Option<bool>); 4] = [(18, None), (29, None), (24, Some(false)), (24, Some(true))];
 const FEWEST_RARE: usize = 30;
 /// How many made-up records each aim has at least; how many tables there are for them at
-/// least, and how many records pass for each, and answer a lock.
+/// least, and how many records pass for each, answer a lock, and answer a reservation against the way of each holder.
 pub const FEWEST_AIMED: usize = 6;
 const TABLES: u64 = 16;
 const PASSING: usize = 28;
 const LOCKS: usize = 4;
+const WAYS: usize = 2;
 
 /// A request or a give-back, its answer, and the answer heard.
 pub fn asked(kind: u8, train: u8, number: u8) -> Vec<u8> {
@@ -174,7 +175,7 @@ pub fn generated_lists(corpus: &mut Corpus) {
     for case in 1_000..10_000 {
         let count = |&(code, sensor): &(u8, Option<bool>)| match sensor {
             None => corpus.list_codes[usize::from(code)],
-            Some(sensor) => corpus.list_locks.locked(sensor),
+            Some(sensor) => corpus.list.locks.locked(sensor),
         };
         let lacking: Vec<_> = RARE.into_iter().filter(|rare| count(rare) < FEWEST_RARE).collect();
         if lacking.is_empty() {
@@ -231,6 +232,8 @@ pub fn made_up_records(corpus: &mut Corpus) {
             let passing = if aim == Aim::LockAsked { LOCKS } else { PASSING };
             if matches!(aim, Aim::Nothing | Aim::LockAsked) && case <= TABLES {
                 (0..passing).for_each(|_| try_aim(&mut rng, corpus, 90, aim));
+            } else if matches!(aim, Aim::WayAsked(_)) && case <= TABLES {
+                (0..WAYS).for_each(|_| try_aim(&mut rng, corpus, 90, aim));
             } else if corpus.aims[place] < FEWEST_AIMED + 2 {
                 try_aim(&mut rng, corpus, 90, aim);
             }

@@ -1,7 +1,7 @@
 //! Makes the corpus of the program `cases` and the text that it must write, with this
 //! implementation alone. The argument is a directory: the corpus goes to its file `stdin`, the text
 //! to its file `stdout`, and what they hold to standard error. It begins with the smallest example of
-//! each code 1 to 30 and ends with files in which code 8 finds one thing alone.
+//! each code 1 to 32 and ends with files in which code 8 finds one thing alone.
 //!
 //! The corpus is a list of records. Numbers of two bytes have the high byte first.
 //!
@@ -34,6 +34,7 @@ mod corpus;
 mod examples;
 mod files;
 mod lines;
+mod one_way;
 mod radio;
 
 use corpus::{Corpus, FEWEST};
@@ -41,15 +42,18 @@ use files::FEWEST_FOUND;
 use lines::FEWEST_AIMED;
 use reference::counts::{file_codes, list_codes, step_codes, Counts, FILE_CODES};
 use reference::generate::made_up::AIMS;
+use reference::table::LONGEST_FILE;
 use std::path::Path;
 
 /// The most bytes of the corpus, of one of its files, and of the text.
-const MOST_CORPUS: usize = 260_000;
-const MOST_FILE: usize = 4_800;
+const MOST_CORPUS: usize = 262_000;
+const MOST_FILE: usize = LONGEST_FILE;
 const MOST_TEXT: usize = 600_000;
 /// How many steps of lists have each code that lists have at least, and how many boxes of lists answer 24 at least with
 /// the sensor active, and with it passive.
 const FEWEST_STEPS: usize = 20;
+/// How often each thing that a box can find against the way comes in lists, and on made-up records, at least.
+const FEWEST_WAYS: usize = 5;
 /// How often each thing that can become of a lost message does in lists at least; how many steps of kinds 3, 4, 9 and
 /// 10 meet each state of a message on made-up records at least.
 const FEWEST_LOST: usize = 5;
@@ -63,6 +67,7 @@ fn make() -> (Corpus, Counts) {
     files::accepted(&mut corpus);
     let before = corpus.counts;
     files::by_hand(&mut corpus);
+    one_way::files(&mut corpus);
     files::damaged(&mut corpus);
     let mut aimed = corpus.counts;
     for (count, sooner) in aimed.iter_mut().zip(before) {
@@ -71,6 +76,8 @@ fn make() -> (Corpus, Counts) {
     lines::paper_lists(&mut corpus);
     radio::lists(&mut corpus);
     radio::records(&mut corpus);
+    one_way::lists(&mut corpus);
+    one_way::records(&mut corpus);
     lines::generated_lists(&mut corpus);
     lines::made_up_records(&mut corpus);
     files::listings(&mut corpus);
@@ -81,14 +88,16 @@ fn make() -> (Corpus, Counts) {
 fn fault(corpus: &Corpus, aimed: &Counts) -> Option<String> {
     let missed = FILE_CODES.map(usize::from).into_iter().find(|&code| aimed[code] < FEWEST);
     let rare = list_codes().find(|&code| corpus.list_codes[code] < FEWEST_STEPS);
-    let locked = [false, true].map(|sensor| corpus.list_locks.locked(sensor));
+    let locked = [false, true].map(|sensor| corpus.list.locks.locked(sensor));
     let unaimed = (0..AIMS.len()).find(|&i| corpus.aims[i] < FEWEST_AIMED);
     match missed {
         Some(code) => Some(format!("code {code} has {} damaged files", aimed[code])),
         None if rare.is_some() => Some(format!("code {} has too few steps", rare?)),
         None if locked.iter().any(|&count| count < FEWEST_STEPS) => Some(format!("24 has too few steps: {locked:?}")),
         None if corpus.list_codes[23] > 0 => Some("a list of steps has code 23".into()),
-        None if corpus.lost.fewest() < FEWEST_LOST => Some("something becomes of lost messages too seldom".into()),
+        None if corpus.list.lost.fewest() < FEWEST_LOST => Some("something becomes of lost messages too seldom".into()),
+        None if corpus.list.ways.fewest_in_lists() < FEWEST_WAYS => Some("lists have 31 too seldom".into()),
+        None if corpus.made_up_ways.fewest() < FEWEST_WAYS => Some("made-up records have 31 too seldom".into()),
         None if corpus.made_up_states.fewest() < FEWEST_STATES => Some("a message's state is met too seldom".into()),
         None if corpus.made_up_locks.fewest() == 0 => Some("boxes do not answer a lock in all ways".into()),
         None if unaimed.is_some() => Some(format!("{:?} has too few made-up records", AIMS[unaimed?])),
@@ -129,8 +138,9 @@ fn print_counts(corpus: &Corpus, aimed: &Counts) {
     for code in step_codes().chain([27]) {
         eprintln!("{code:4} {:6} {:6}", corpus.list_codes[code], corpus.made_up_codes[code]);
     }
-    eprint!("lists: {}made-up records: {}", corpus.list_locks, corpus.made_up_locks);
-    eprint!("lists: {}made-up records: {}", corpus.lost, corpus.made_up_states);
+    eprint!("lists: {}made-up records: {}", corpus.list.locks, corpus.made_up_locks);
+    eprint!("lists: {}made-up records: {}", corpus.list.ways, corpus.made_up_ways);
+    eprint!("lists: {}made-up records: {}", corpus.list.lost, corpus.made_up_states);
     eprint!("files for code 8: {}", corpus.listings);
     eprintln!("made-up records by what they break");
     for (aim, count) in AIMS.iter().zip(&corpus.aims) {
@@ -147,6 +157,7 @@ mod tests {
     use reference::numbers::line_numbers;
     use reference::step::{step_with, Step};
     use reference::table_read::{read_table, read_table_with};
+    use reference::table_write::write_table_with;
 
     #[test]
     fn every_code_is_there() {
@@ -168,13 +179,28 @@ mod tests {
         }
     }
 
+    /// Each fault of the writer changes what is written for some file.
+    #[test]
+    fn every_writer_fault_shows() {
+        let (corpus, _) = make();
+        for &fault in FAULTS.iter().filter(|fault| fault.in_writer()) {
+            let differs = |f: &&Vec<u8>| {
+                let mut buffer = (*f).clone();
+                read_table(f).is_ok_and(|table| write_table_with(&table, &mut buffer, fault).is_ok() && buffer != **f)
+            };
+            let count = corpus.files.iter().filter(differs).count();
+            println!("{fault:?} {count}");
+            assert!(count > 0, "{fault:?}");
+        }
+    }
+
     /// Each fault of the steps changes the text of some list or made-up record, but for records kept at
     /// Clear, which no step tells, and 16 before 15, which no record that passes 27 tells. Each fault of the
     /// record check changes the text of some made-up record. A fault in demand 3 changes no step.
     #[test]
     fn every_other_fault_shows() {
         let (corpus, _) = make();
-        for &fault in FAULTS.iter().filter(|fault| !fault.in_reader() && !fault.in_demand()) {
+        for &fault in FAULTS.iter().filter(|fault| fault.in_steps() || fault.in_record()) {
             let run = |run: &corpus::Run, fault: Fault| {
                 let mut line = start_line_with(&read_table(&run.file).ok()?, fault);
                 let whole = run.steps.chunks_exact(3).map(|s| -> Step { s.try_into().unwrap() });

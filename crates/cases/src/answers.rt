@@ -13,7 +13,7 @@ use rules::Table;
 use std::num::wrapping_add_u8;
 
 // Room for each file of a corpus. A file that is not refused for its length has at most 4,888 bytes.
-const LONGEST: usize = 4800;
+const LONGEST: usize = 4896;
 
 // Decides a file. A refused file's line has the reader's refusal alone, an accepted one's also the writer's answers and the routes.
 pub(crate) fn decide(file: &[u8]) {
@@ -34,12 +34,12 @@ pub(crate) fn decide_changed(file: &[u8], index: usize, value: u8) {
 }
 
 // Puts that file at the front of `to`, and zeros behind it.
-fn copy_changed(from: &[u8], index: usize, value: u8, to: &mut [u8; 4800])
-    requires { ⌜ 4800 ≡ length (now to) ⌝ }
-    ensures { λ _. ⌜ 4800 ≡ length (now (to .exit)) ⌝ }
+fn copy_changed(from: &[u8], index: usize, value: u8, to: &mut [u8; 4896])
+    requires { ⌜ 4896 ≡ length (now to) ⌝ }
+    ensures { λ _. ⌜ 4896 ≡ length (now (to .exit)) ⌝ }
 {
     let mut i = 0;
-    while i < 4800 {
+    while i < 4896 {
         to[i] = changed_byte(from, i, index, value);
         i += 1;
     }
@@ -62,7 +62,7 @@ fn put_written(table: Table) {
 
 // The writer's answer for a buffer of this size.
 fn put_write_in(table: Table, size: usize)
-    requires { ⌜ size ≤ 4800 ⌝ }
+    requires { ⌜ size ≤ 4896 ⌝ }
 {
     let mut buffer = [0u8; LONGEST];
     put_write(table, &mut buffer[0..size]);

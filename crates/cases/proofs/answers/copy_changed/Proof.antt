@@ -7,10 +7,10 @@ use Rattle.cases.proofs.answers.copy_changed.Statement.{statement}
 use Rattle.cases.proofs.answers.copy_changed.Tie as tie
 
 abbrev Inv-loop : tie.InvT-loop
-Inv-loop from index value to₀ i₀ to i = 4800 ≡ length to
+Inv-loop from index value to₀ i₀ to i = 4896 ≡ length to
 
 abbrev μ-loop : tie.MeasureT-loop
-μ-loop from index value to₀ i₀ to i = 4800 - i
+μ-loop from index value to₀ i₀ to i = 4896 - i
 
 pub copy-changed-spec : {M : Type 1} → statement M
 copy-changed-spec =

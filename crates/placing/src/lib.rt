@@ -212,8 +212,7 @@ fn some_start_against(k: u8, trains: [TrainPlan; 16], routes: &[u8; 1024], ways:
     ensures { λ r. ⌜ r ≡ anyOf k (startAgainstAt (wayIn (now (ways .entry))) trains (now (routes .entry))) ⌝ }
 {
     let mut number: u8 = 0;
-    // Train number + 1 is looked at, up to the last.
-    while number + 1 <= k {
+    while number < k {
         let i = number as usize;
         number += 1;
         let p = trains[i];

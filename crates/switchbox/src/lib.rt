@@ -71,10 +71,11 @@ fn another(i: u8, holder: u8) -> bool
 fn reserve_code(v: Around, p: BoxPlan, x: SwitchBox) -> u8
     ensures { λ c. ⌜ ((b : ℕ) → c ≡ first (grantRows v p x (NextAt b))) ⌝ }
 {
+    let taken = another(v.number, holder_of(p, x, v.next));
     if v.against {
         return 31;
     }
-    if another(v.number, holder_of(p, x, v.next)) {
+    if taken {
         return 22;
     }
     YES

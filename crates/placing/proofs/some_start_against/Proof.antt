@@ -1,6 +1,5 @@
 -- The loop has found nothing among the trains before.
 use Prim.Native.Nat.{_-_}
-use native.Mathlib.Omega.{arith}
 use borrow.Author.Needs.{needs}
 use Rattle.rules.proofs.Rows.{NoneYet, none-start, none-turn, none-found, none-done}
 use Rattle.rules.specs.Track.{wayIn}
@@ -20,7 +19,7 @@ returns c =
     let asked = c .before in
     let looked = asked .before .before in
     let turn = looked .before .before in
-    none-found _ _ _ (omega (arith, turn .loop-test .taken))
+    none-found _ _ _ (turn .loop-test .taken)
     (against-answer _ _ _ _ _ _ _ (looked .segment-at .ensures) (asked .runs-against .ensures) (c .if1 .taken))
 
 loop-again : tie.Need-loop-again Inv-loop μ-loop
@@ -28,7 +27,7 @@ loop-again c =
     let asked = c .before in
     let looked = asked .before .before in
     let turn = looked .before .before in
-    none-turn _ _ _ (turn .before .loop .inv) (omega (arith, turn .loop-test .taken))
+    none-turn _ _ _ (turn .before .loop .inv) (turn .loop-test .taken)
     (against-answer _ _ _ _ _ _ _ (looked .segment-at .ensures) (asked .runs-against .ensures) (c .if1 .left))
 
 pub some-start-against-spec : {M : Type 1} → statement M
@@ -42,7 +41,6 @@ some-start-against-spec =
     (λ c. search needs)
     (λ c. search needs)
     (λ c. search needs)
-    (λ c. search needs)
     (λ c κs. search needs)
     (λ c. search needs)
     (λ c. search needs)
@@ -50,4 +48,4 @@ some-start-against-spec =
     returns
     (λ c. search needs)
     loop-again
-    (λ c. none-done _ _ _ (c .before .loop .inv) (omega (arith, c .loop-test .left))))
+    (λ c. search none-done))

@@ -12,12 +12,14 @@ returns c b = rw (c .if1 .taken)
 returns-2 : tie.Need-returns-2
 unfolding first grantRows
 returns-2 c b =
-    rw (c .before .before .before .if1 .left, ← c .before .before .holder-of .ensures, ← c .before .another .ensures, c .if2 .taken)
+    let taken = c .before .before in
+    rw (c .before .if1 .left, ← taken .before .holder-of .ensures, ← taken .another .ensures, c .if2 .taken)
 
 returns-3 : tie.Need-returns-3
 unfolding first grantRows
 returns-3 c b =
-    rw (c .before .before .before .if1 .left, ← c .before .before .holder-of .ensures, ← c .before .another .ensures, c .if2 .left)
+    let taken = c .before .before in
+    rw (c .before .if1 .left, ← taken .before .holder-of .ensures, ← taken .another .ensures, c .if2 .left)
 
 pub reserve-code-spec : {M : Type 1} → statement M
-reserve-code-spec = tie.close (tie.spec returns (λ c κs. search needs) (λ c κs. search needs) returns-2 returns-3)
+reserve-code-spec = tie.close (tie.spec (λ c κs. search needs) (λ c κs. search needs) returns returns-2 returns-3)

@@ -1,5 +1,6 @@
 -- The codes in their order, by the tests that led to each return.
 use Prim.Native.Nat.{_≤_}
+use native.Mathlib.Omega.{arith}
 use borrow.Author.Needs.{needs}
 use Rattle.rules.proofs.Tests.{answered}
 use Rattle.rules.proofs.Rows.{length-mapped}
@@ -23,7 +24,7 @@ placing-refusal-spec =
     (λ c κs. search needs)
     (λ c κs. search needs)
     (λ c. search (refused-12, answered))
-    (λ c κs. few (c .before .before .before .before .before))
+    (λ c κs. omega (arith, few (c .before .before .before .before .before)))
     (λ c κs. search needs)
     (λ c. search (refused-32, answered))
     (λ c κs. search needs)

@@ -40,8 +40,8 @@ extern "C" {
 /* The version of this interface. The second number grows when something is added and every program that was right stays right,
  * but for steps of kinds that were answered 13: these may be given a meaning. The first grows, and the second is 0 again, when a
  * name, a parameter, a code, a size or a promise changes. This is not the version in the head of a table. */
-#define LINEENGINE_VERSION_MAJOR 3
-#define LINEENGINE_VERSION_MINOR 1
+#define LINEENGINE_VERSION_MAJOR 4
+#define LINEENGINE_VERSION_MINOR 0
 
 /* The bytes of stack that are enough for any call. */
 #define LINEENGINE_STACK 65536
@@ -53,11 +53,11 @@ enum lineengine_code {
     /* The table is refused, by its head and length: its bytes are no whole table. */
     LINEENGINE_SHORTER_THAN_HEAD = 1,      /* fewer than 8 bytes */
     LINEENGINE_NO_MARK = 2,                /* the first three bytes are not NET */
-    LINEENGINE_UNKNOWN_VERSION = 3,        /* the table's version is not 1 */
+    LINEENGINE_UNKNOWN_VERSION = 3,        /* the table's version is neither 1 nor 2 */
     LINEENGINE_COUNT_OUT_OF_RANGE = 4,     /* too few or too many segments, boxes or trains */
     LINEENGINE_WRONG_TABLE_LENGTH = 5,     /* another length than counts and routes say */
     /* The table is refused, by its network. */
-    LINEENGINE_SEGMENT_ENDS_WRONG = 6,     /* a segment ends at no box, or at one box twice */
+    LINEENGINE_SEGMENT_MALFORMED = 6,      /* a segment ends at no box, or at one box twice, or its way is above 2 */
     LINEENGINE_BOX_MALFORMED = 7,          /* kind, segments or position of a box do not fit together */
     LINEENGINE_SEGMENTS_BOXES_DIFFER = 8,  /* segment records and box records tell different tracks */
     LINEENGINE_TRACK_HAS_LOOP = 9,         /* segments follow one another back to the first */
@@ -66,6 +66,7 @@ enum lineengine_code {
     LINEENGINE_ROUTE_SEGMENT_UNKNOWN = 11, /* a route has a segment that there is not; `train` and `place` say where */
     LINEENGINE_ROUTE_NOT_FOLLOWING = 28,   /* a segment does not follow the one before; `train` and `place` say where */
     LINEENGINE_START_SHARED = 12,          /* two trains start on one segment */
+    LINEENGINE_START_AGAINST_THE_WAY = 32, /* a train starts against the way of its one-way segment */
 
     /* A step is refused; only in `answers`. Nothing has changed. */
     LINEENGINE_NO_SUCH_STEP = 13,          /* no such kind, a box byte in kinds 3 to 6, 9 or 10, or a last step cut short */
@@ -81,6 +82,7 @@ enum lineengine_code {
     LINEENGINE_NOTHING_TO_REPEAT = 30,     /* there is nothing to lose, or nothing to send again */
 
     /* A box says no to a train; only in `answers`, when the box answers and when the train hears. */
+    LINEENGINE_AGAINST_THE_WAY = 31,       /* the segment is one-way, and the train goes against its way: asking again is in vain */
     LINEENGINE_SEGMENT_RESERVED = 22,      /* the segment is reserved for another train */
     LINEENGINE_POINT_LOCKED = 24,          /* the point is locked for another train, which may be on it */
     LINEENGINE_POINT_OCCUPIED = 23,        /* a train is on the point, and no train has its lock; no function here answers this */
@@ -90,9 +92,10 @@ enum lineengine_code {
     LINEENGINE_LINE_RECORD_WRONG = 27      /* a line record that no line can have; no function here takes one or answers this */
 };
 
-/* No table with more bytes is accepted: 96 segments and boxes, 16 trains with routes of 64. Whoever loads a table into a buffer
- * loads up to one byte more than this, so that a longer file is refused and not cut. */
-#define LINEENGINE_MOST_TABLE 1736
+/* No table with more bytes is accepted: version 2, 96 segments and boxes, 16 trains with routes of 64. Of version 1, whose segments
+ * have two bytes and not three, none with more than 1736 is. Whoever loads a table into a buffer loads up to one byte more than this,
+ * so that a longer file is refused and not cut. */
+#define LINEENGINE_MOST_TABLE 1832
 
 /* The most steps that `lineengine_print` takes; `lineengine_run` takes any number. */
 #define LINEENGINE_MOST_PRINTED_STEPS 65535
@@ -109,8 +112,8 @@ enum lineengine_code {
 #define LINEENGINE_TEXT_ROOM(steps) (18 * ((size_t)(steps) + 113))
 
 /*
- * The code of a table: 0, or the first of 1 to 12 and 28 that refuses it. 11 and 28 are one search, after 10 and before 12: train
- * by train, each route from its start, at one place 11 before 28.
+ * The code of a table: 0, or the first of 1 to 12, 28 and 32 that refuses it. 11 and 28 are one search, after 10 and before 12: train
+ * by train, each route from its start, at one place 11 before 28. 32 comes after 12.
  * NULL with length 0: `table` is a table of no bytes, code 1. `train` and `place` are never NULL.
  */
 uint8_t lineengine_check(const uint8_t *table, size_t table_length, uint8_t *train, uint8_t *place);

@@ -11,7 +11,7 @@ ghost use Rattle.lineengine.specs.WriteBack.{writeBackRefusal, writtenBa
 ghost use Rattle.lineengine.specs.Safe.{SafelyAnswered};
 ghost use Rattle.lineengine.specs.Print.{printedSize};
 
-// The code of a table file: 0, or why it is refused, 1 to 12 or 28; and with 11 and 28 the train and the place on its route, counted
+// The code of a table file: 0, or why it is refused, 1 to 12, 28 or 32; and with 11 and 28 the train and the place on its route, counted
 // from 1, with any other code 0.
 #[no_mangle]
 pub extern "C" fn lineengine_check(table: &[u8], train: &mut u8, place: &mut u8) -> u8

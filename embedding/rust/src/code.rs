@@ -8,14 +8,14 @@ pub const ACCEPTED: u8 = 0;
 pub const SHORTER_THAN_HEAD: u8 = 1;
 /// The table's first three bytes are not NET.
 pub const NO_MARK: u8 = 2;
-/// The table's version is not 1.
+/// The table's version is neither 1 nor 2.
 pub const UNKNOWN_VERSION: u8 = 3;
 /// Too few or too many segments, boxes or trains.
 pub const COUNT_OUT_OF_RANGE: u8 = 4;
 /// The table has another length than its counts and routes say.
 pub const WRONG_TABLE_LENGTH: u8 = 5;
-/// A segment ends at no box, or at one box twice.
-pub const SEGMENT_ENDS_WRONG: u8 = 6;
+/// A segment ends at no box, or at one box twice, or its way is above 2.
+pub const SEGMENT_MALFORMED: u8 = 6;
 /// Kind, segments or position of a box do not fit together.
 pub const BOX_MALFORMED: u8 = 7;
 /// Segment records and box records tell different tracks.
@@ -30,6 +30,8 @@ pub const ROUTE_SEGMENT_UNKNOWN: u8 = 11;
 pub const ROUTE_NOT_FOLLOWING: u8 = 28;
 /// Two trains start on one segment.
 pub const START_SHARED: u8 = 12;
+/// A train starts against the way of its one-way segment.
+pub const START_AGAINST_THE_WAY: u8 = 32;
 
 /// A step of no kind, with a box byte that is not 0 in kinds 3 to 6, 9 or 10, or a last step cut short.
 pub const NO_SUCH_STEP: u8 = 13;
@@ -54,6 +56,8 @@ pub const NO_MESSAGE: u8 = 21;
 /// There is nothing to lose, or nothing to send again.
 pub const NOTHING_TO_REPEAT: u8 = 30;
 
+/// A box's no: the segment is one-way, and the train goes against its way. Asking again is in vain.
+pub const AGAINST_THE_WAY: u8 = 31;
 /// A box's no: the segment is reserved for another train.
 pub const SEGMENT_RESERVED: u8 = 22;
 /// A box's no: the point is locked for another train, which may be on it.

@@ -21,6 +21,10 @@
 //! let refusal = Refusal::Table { code: code::ROUTE_NOT_FOLLOWING, at: Some(RoutePlace { train: 1, place: 2 }) };
 //! assert_eq!(check(&table), Err(refusal));
 //! assert_eq!(refusal.to_string(), "28: the table is refused, train 1, place 2 on its route");
+//!
+//! // A table of version 2: segment 1 runs from A to B only, and the train starts in direction 1, from B to A.
+//! let table = [0x4E, 0x45, 0x54, 0, 2, 1, 2, 1, 1, 2, 1, 0, 1, 0, 0, 0, 0, 1, 0, 0, 0, 1, 1, 1];
+//! assert_eq!(check(&table), Err(Refusal::Table { code: code::START_AGAINST_THE_WAY, at: None }));
 //! ```
 #![no_std]
 
@@ -31,13 +35,13 @@ mod refusal;
 pub use refusal::{Buffer, Refusal, RoutePlace};
 
 /// The version of the interface, as in embedding/lineengine.h, which says when it changes.
-pub const VERSION: (u32, u32) = (3, 1);
+pub const VERSION: (u32, u32) = (4, 0);
 
 /// The bytes of stack that are enough for any call.
 pub const STACK: usize = 65_536;
 
-/// No table with more bytes is accepted.
-pub const MOST_TABLE: usize = 1_736;
+/// No table with more bytes is accepted; of version 1 none with more than 1,736.
+pub const MOST_TABLE: usize = 1_832;
 
 /// The most steps that `print` takes; `run` takes any number.
 pub const MOST_PRINTED_STEPS: usize = 65_535;

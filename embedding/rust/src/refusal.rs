@@ -7,7 +7,7 @@ use core::fmt;
 /// A refusal. Every buffer of the call is as it was.
 #[derive(Clone, Copy, Debug, PartialEq, Eq)]
 pub enum Refusal {
-    /// The table is refused, with this code, 1 to 12 or 28 (`code`). There is a place exactly with 11 and 28.
+    /// The table is refused, with this code, 1 to 12, 28 or 32 (`code`). There is a place exactly with 11 and 28.
     Table { code: u8, at: Option<RoutePlace> },
     /// A lent buffer has less room than the call needs: `code::BUFFER_TOO_SHORT`.
     TooShort { buffer: Buffer, needed: usize, room: usize },

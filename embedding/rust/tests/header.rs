@@ -23,7 +23,7 @@ fn codes() {
     let of_the_header = named(&HEADER.replace(" /*", ","), "LINEENGINE_", " = ", ",");
     let mut numbers: Vec<usize> = of_the_header.iter().map(|(_, number)| *number).collect();
     numbers.sort();
-    assert_eq!(numbers, (0..=30).collect::<Vec<_>>());
+    assert_eq!(numbers, (0..=32).collect::<Vec<_>>());
     assert_eq!(named(CODES, "pub const ", ": u8 = ", ";"), of_the_header);
 }
 

@@ -6,7 +6,6 @@ use reference::refusal::Refusal;
 /// How many differences are shown.
 const SHOWN: usize = 5;
 
-#[derive(Default)]
 pub struct Counts {
     /// Calls of check, run, print and write back, by the raw functions and by the wrapper.
     pub calls: [usize; 4],
@@ -26,6 +25,21 @@ pub struct Counts {
 }
 
 impl Counts {
+    pub fn new() -> Counts {
+        Counts {
+            calls: [0; 4],
+            file_codes: [0; CODES],
+            step_codes: [0; CODES],
+            by_place: 0,
+            by_unequal: 0,
+            too_short: [0; 4],
+            with_null: 0,
+            cases: 0,
+            cut_short: 0,
+            differences: 0,
+        }
+    }
+
     /// Counts a case.
     pub fn case(&mut self, codes: &Result<Vec<u8>, Refusal>, steps: &[u8]) {
         self.cases += 1;

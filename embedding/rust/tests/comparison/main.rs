@@ -10,7 +10,7 @@ mod lent;
 use calls::Case;
 use counts::Counts;
 use reference::argument::argument;
-use reference::generate::damage::damaged_file;
+use reference::generate::damage::{damaged_file, DAMAGES};
 use reference::generate::listing::damaged_listing;
 use reference::generate::outside::{driven, table_with_steps};
 use reference::generate::prng::Prng;
@@ -23,16 +23,22 @@ const S: &[u8] = include_bytes!("../../../../samples/s/net");
 const S_STEPS: &[u8] = include_bytes!("../../../../samples/s/steps");
 /// Where the segments of its two routes stand.
 const ROUTES_OF_S: [usize; 6] = [38, 39, 40, 43, 44, 45];
-/// Ways of damaging a file.
-const AIMS: u64 = 21;
+/// A table of version 2.
+const ONE_WAY: &[u8] = include_bytes!("../../../../samples/oneway/net");
+const ONE_WAY_STEPS: &[u8] = include_bytes!("../../../../samples/oneway/steps");
+/// Where the ways of its segments stand.
+const WAYS: [usize; 4] = [10, 13, 16, 19];
+/// Sorts of damage to a file.
+const AIMS: u64 = DAMAGES as u64;
 /// How many files of a table are damaged in its boxes and ends of segments alone.
 const LISTINGS: usize = 2;
 
 fn main() {
     let (seed, tables) = (argument(1, 1), argument(2, 200));
-    let mut counts = Counts::default();
+    let mut counts = Counts::new();
     short_and_long_files(seed, &mut counts);
     routes(seed, &mut counts);
+    ways(seed, &mut counts);
     limits(seed, &mut counts);
     for case in 0..tables {
         table(seed, case, &mut counts);
@@ -64,19 +70,23 @@ fn table(seed: u64, case: u64, counts: &mut Counts) {
     }
 }
 
-/// Every front part of table S and of its steps, table S with bytes after it, long files.
+/// Every front part of table S, of a table of version 2 and of the steps of S; both tables with bytes after them, long files.
 fn short_and_long_files(seed: u64, counts: &mut Counts) {
     let mut rng = Prng::for_case(seed, u64::MAX);
     for length in 0..=S.len() {
         Case::new(&S[..length], S_STEPS).compare(&mut rng, counts);
     }
+    for length in 0..=ONE_WAY.len() {
+        Case::new(&ONE_WAY[..length], ONE_WAY_STEPS).compare(&mut rng, counts);
+    }
     for length in 0..=S_STEPS.len() {
         Case::new(S, &S_STEPS[..length]).compare(&mut rng, counts);
     }
-    for length in [47, 1_736, 1_737, 4_791, 4_792, 4_793, 100_000] {
-        let mut longer = S.to_vec();
-        longer.resize(length, 0);
-        Case::new(&longer, S_STEPS).compare(&mut rng, counts);
+    for length in [47, 51, 1_736, 1_737, 1_832, 1_833, 4_791, 4_792, 4_793, 4_887, 4_888, 4_889, 100_000] {
+        for mut longer in [S.to_vec(), ONE_WAY.to_vec()] {
+            longer.resize(length, 0);
+            Case::new(&longer, S_STEPS).compare(&mut rng, counts);
+        }
     }
     Case::new(&vec![0xFF; 100_000], S_STEPS).compare(&mut rng, counts);
 }
@@ -89,6 +99,18 @@ fn routes(seed: u64, counts: &mut Counts) {
             let mut changed = S.to_vec();
             (changed[first], changed[second]) = (one, other);
             Case::new(&changed, S_STEPS).compare(&mut rng, counts);
+        }
+    }
+}
+
+/// A table of version 2 with the ways of any two segments changed, each to every one from 0 to one above the last.
+fn ways(seed: u64, counts: &mut Counts) {
+    let mut rng = Prng::for_case(seed, u64::MAX - 2);
+    for (first, second) in pairs(&WAYS) {
+        for (one, other) in (0..=3).flat_map(|one| (0..=3).map(move |other| (one, other))) {
+            let mut changed = ONE_WAY.to_vec();
+            (changed[first], changed[second]) = (one, other);
+            Case::new(&changed, ONE_WAY_STEPS).compare(&mut rng, counts);
         }
     }
 }

@@ -8,8 +8,9 @@ use reference::generate::example::{file_text, record_text, Example, BOX_FIELDS};
 use reference::generate::smallest::{refused_size, smallest_accepted, smallest_examples};
 use reference::printout::printout;
 use reference::refusal::Refusal;
-use reference::table::network_bytes;
+use reference::table::{network_bytes, A_TO_B, BOTH_WAYS, B_TO_A, VERSION_2};
 use reference::table_read::read_table;
+use reference::table_write::file_bytes;
 
 const CODES: &str = include_str!("../../docs/CODES.md");
 const TABLES: &str = include_str!("../../docs/TABLES.md");
@@ -291,6 +292,24 @@ fn tables_page_has_table_s() {
     assert_eq!(blocks.iter().filter_map(|block| plain_hex(block)).collect::<Vec<_>>(), [S]);
     assert_eq!(printout(S, S_STEPS), S_PRINTOUT.as_bytes());
     assert!(blocks.contains(&S_PRINTOUT));
+}
+
+/// The page has table S as version 2, which runs as S does, and the ways with which its trains still pass each other.
+#[test]
+fn tables_page_has_table_s_as_version_2() {
+    let mut table = read_table(S).expect("table S is accepted");
+    table.version = VERSION_2;
+    let (both_ways, words) = (file_bytes(&table), on_one_line(TABLES));
+    assert!(blocks(TABLES).contains(&file_text(&both_ways).as_str()));
+    assert!(words.contains(&format!("= {} bytes and runs as it does in version 1", both_ways.len())));
+    assert_eq!(printout(&both_ways, S_STEPS), S_PRINTOUT.as_bytes());
+    for segment in [2, 3] {
+        let (front, _) = words.split_once(&format!("` as segment {segment} ")).expect("the segment");
+        let (_, record) = front.rsplit_once('`').expect("its record");
+        table.segments[segment - 1].way = hex_bytes(record).expect("bytes")[2];
+    }
+    assert_eq!(table.segments.iter().map(|s| s.way).collect::<Vec<_>>(), [BOTH_WAYS, A_TO_B, B_TO_A, BOTH_WAYS]);
+    assert_eq!(printout(&file_bytes(&table), PASSING_STEPS), printout(S, PASSING_STEPS));
 }
 
 /// samples/refused is table S with the route 2, 3 for train 1; the page shows its train records.

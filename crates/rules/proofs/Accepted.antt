@@ -11,7 +11,7 @@ use Rattle.rules.specs.declared.Table.{Table}
 use Rattle.rules.specs.declared.BoxPlan.{BoxPlan}
 use Rattle.rules.specs.declared.Refusal.{Refusal}
 use Rattle.rules.specs.Rows.{anyOf, nth, outside}
-use Rattle.rules.specs.Track.{noBoxPlan, planAt, trainPlanAt, routeAt, Track, trackOf, wayBy, wayOf, runsAgainst, nearBox, farBox, follows, isPoint, positionFits}
+use Rattle.rules.specs.Track.{noBoxPlan, planAt, trainPlanAt, routeAt, Track, trackOf, wayOf, runsAgainst, nearBox, farBox, follows, isPoint, positionFits}
 use Rattle.rules.specs.Loop.{SegmentOf, Loop}
 use Rattle.rules.specs.Network.{knownVersion, hasWays, someOneWay, waysFault, limitsFault, endsFault, segmentFault, placeFault, branchesFault, planFault, lists, hasEndA, hasEndB, listedFault, sideFault, boxFault, planFaultAt, boxFaultAt, unlistedFault, headRows, networkRows}
 use Rattle.rules.specs.Placing.{firstOf, routeShapeFault, placeRows, routePlaceFault, routeFault, startFault, startAgainstAt, shapeFaultAt, routeFaultAt, routesFault, placingRows, partsCode, tableCode}

@@ -1,18 +1,16 @@
 -- Laws of what stands around a train, and of the kinds of boxes.
-use Prim.Native.Nat.{ℕ, zero, suc, _+_, _-_, _*_, _<_}
+use Prim.Native.Nat.{ℕ, _+_, _-_, _<_}
 use mathlib.Core.Path.{_≡_, refl, sym, ap}
 use mathlib.Core.Bool.{Bool}
 use mathlib.Core.List.{List}
 use native.Mathlib.Omega.{arith}
-use lib.Dec.{ltb}
-use lib.ListN.{length, getD, List·getD-eq-default}
+use lib.ListN.{length, getD}
 use Rattle.rules.specs.declared.BoxPlan.{BoxPlan}
 use Rattle.rules.specs.declared.Train.{Train}
 use Rattle.rules.specs.declared.Around.{Around}
 use Rattle.rules.specs.Rows.{nth}
 use Rattle.rules.specs.Track.{noBoxPlan, routeAt, Track, runsAgainst, farBox, nearBox}
 use Rattle.rules.specs.Line.{aroundOn}
-use Rattle.rules.proofs.Tests.{cond-same}
 use Rattle.rules.proofs.Rows.{nth-at, nth-past}
 use Rattle.traincomputer.specs.Sight.{kindOf}
 

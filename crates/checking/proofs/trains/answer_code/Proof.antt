@@ -1,5 +1,4 @@
 -- Each arm by its variant and its tests.
-use mathlib.Core.Path.{refl}
 use borrow.Author.Needs.{needs}
 use borrow.Author.Tests.{ne-eqb}
 use Rattle.rules.specs.Record.{answerCode}

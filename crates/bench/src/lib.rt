@@ -1,5 +1,7 @@
 // The reader and single steps of the engine as the benchmark calls them, from a static library; writing and runs it takes from
 // `lineengine`. Nothing else uses this crate.
+#![tactic(auto)]
+
 ghost use Rattle.std.specs.Prelude.{◌≡◌, ◌%◌, ◌<◌, ◌≤◌, ◌++◌, length, drop};
 ghost use Rattle.rules.specs.Line.{read};
 ghost use Rattle.rules.specs.Record.{checked_step};

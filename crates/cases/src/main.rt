@@ -1,6 +1,8 @@
 // Runs the reader, the writer and the engine on the records of a corpus, which is standard input, and writes a line of answers for
 // each. The file `stdout` beside this folder has the lines that the second implementation gives
 // (reference/src/bin/make_corpus/main.rs, which says what a corpus and a line hold).
+#![tactic(auto)]
+
 mod answers;
 mod changes;
 mod numbers;

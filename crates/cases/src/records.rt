@@ -6,7 +6,7 @@ use crate::runs::{put_made_up, put_runs};
 use std::num::wrapping_add_usize;
 
 // How far the corpus is done: where its next record begins, and where in it the base file and the last list of steps stand.
-#[derive(Drop)]
+#[derive(Clone, Copy)]
 pub struct Place {
     pub next: usize,
     pub file: usize,

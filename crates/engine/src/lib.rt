@@ -1,4 +1,6 @@
 // The line engine: a single step on any line record, and a run of a table file and all its steps.
+#![tactic(auto)]
+
 ghost use Rattle.std.specs.Prelude.{◌≡◌};
 ghost use Rattle.rules.specs.Record.{checked_step};
 ghost use Rattle.rules.specs.Run.{run, answered, SafeRun};

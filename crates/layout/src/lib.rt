@@ -1,5 +1,7 @@
 // Whether a table record is accepted: codes 3, 4, 6 to 12, 28 and 32, by the definition `table_refusal` of `rules`. Here are 3 and 4, and
 // the sizes that go by the version; the crate `network` has 6 to 9, and `placing` 10 to 12, 28 and 32.
+#![tactic(auto)]
+
 ghost use Rattle.std.specs.Prelude.{◌≡◌};
 ghost use Rattle.rules.specs.Rows.{first};
 ghost use Rattle.rules.specs.Track.{track_in, way_in};

@@ -1,5 +1,7 @@
 // The program: reads a table from the file `net` in the folder where it is started, and steps from standard input, and prints
 // what 01 says ("Table S and its printout").
+#![tactic(auto)]
+
 ghost use Rattle.std.specs.Prelude.{◌≡◌, length, take};
 ghost use Rattle.io.specs.Counts.{IsPrefixLen};
 ghost use Rattle.rules.specs.Printout.{most_file, most_input, printout};

@@ -1,6 +1,8 @@
 // The line engine for units programmed in C or Rust: functions on numbers and lent bytes, in a static library. Each takes any
 // bytes, keeps nothing between calls and asks nothing of its caller but what the language asks of references. The header for C
 // is embedding/lineengine.h.
+#![tactic(auto)]
+
 ghost use Rattle.std.specs.Prelude.{◌≡◌};
 ghost use Rattle.rules.specs.File.{file_refusal};
 ghost use Rattle.rules.specs.Record.{checked_step};

@@ -2,6 +2,8 @@
 // in which every box comes after those that lead to it, and then raised where they do not rise, until they all do or one is too
 // high for a line without a loop. The guess is right where code 8 passed and there is no loop, so that one pass is enough; that
 // the answer is right does not rest on it.
+#![tactic(auto)]
+
 ghost use Rattle.std.specs.Prelude.{◌≡◌, ◌<◌, ◌≤◌};
 ghost use Rattle.rules.specs.Track.{track_in};
 ghost use Rattle.rules.specs.Loop.{has_loop};
@@ -112,7 +114,7 @@ fn guess(n: u8, m: u8, plans: [BoxPlan; 96], a: &[u8; 256], b: &[u8; 256]) -> [u
 
 // What a pass over all segments ends in: the ranks rise along all of them, some rank was raised, or one would be higher than in
 // any line without a loop.
-#[derive(Drop)]
+#[derive(Clone, Copy)]
 enum Pass {
     Rising,
     Raised,

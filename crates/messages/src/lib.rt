@@ -1,4 +1,6 @@
 // What a request is about, for the train's computer and for the box.
+#![tactic(auto)]
+
 ghost use Rattle.std.specs.Prelude.{◌≡◌};
 ghost use Rattle.rules.specs.Line.{holding, gives_back};
 

@@ -1,5 +1,7 @@
 // The network of a table: codes 6 to 9, by the boxes at the A ends and at the B ends of its segments, and by their ways. Here are 6 and 7,
 // the segments and the plans of boxes; `listing` has 8, the segments that boxes list, and the crate `loops` has 9.
+#![tactic(auto)]
+
 mod listing;
 
 ghost use Rattle.std.specs.Prelude.{◌≡◌};

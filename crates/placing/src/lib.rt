@@ -1,4 +1,6 @@
 // The trains of a table: code 10, the shape of routes; 11 and 28, their segments; 12, the first segments of trains; and 32, their ways.
+#![tactic(auto)]
+
 ghost use Rattle.std.specs.Prelude.{◌≡◌, ◌+◌, ◌≤◌, min, length};
 ghost use Rattle.rules.specs.Rows.{first, any_of};
 ghost use Rattle.rules.specs.Track.{route_at, track_in, way_in, follows};

@@ -1,4 +1,6 @@
 // The text that the program prints, built in lent memory, by the definitions of `rules` (specs/Printout.antt).
+#![tactic(auto)]
+
 mod lines;
 mod words;
 
@@ -6,7 +8,7 @@ ghost use Rattle.std.specs.Prelude.{◌≡◌, ◌*◌, cond, ltb};
 ghost use Rattle.rules.specs.Printout.{most_steps, print_code, print_length, printed_text, printed_answers};
 
 // What `print` answers: the code, 0 or 26 where a buffer is too short, and the length of the text that was written.
-#[derive(Drop)]
+#[derive(Clone, Copy)]
 pub struct Printed {
     pub code: u8,
     pub length: usize,

@@ -1,4 +1,6 @@
 // The reader: the bytes of a table file to the line at its start, or why the file is refused, by codes 1 to 12, 28 and 32.
+#![tactic(auto)]
+
 pub mod empty;
 mod start;
 

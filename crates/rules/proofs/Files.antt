@@ -34,7 +34,7 @@ pub held-read : (bytes : List ℕ) → segment_count bytes ≤ 96 → ways_fault
 unfolding ways_fault some_one_way way_by segment_at segment_in segment_from
 held-read bytes few =
     simp (facts, any_false_iff) λ none s.
-    elim s [
+    elim s as (λ j. 1 ≤ j → j ≤ segment_count bytes → (segment_at (decode bytes) j).way ≡ 0) [
       | zero ↦ λ l h. absurd (omega arith)
       | suc i ↦ λ l h.
           let read : segment_at (decode bytes) (i + 1) ≡ segment_in bytes (i + 1) = segment_read bytes few i (omega arith) in

@@ -26,7 +26,7 @@ use Rattle.rules.specs.Record.{answer_code}
 use Rattle.rules.specs.History.{◌answered◌, line_after, events}
 use Rattle.rules.specs.Safety.{TrainOf}
 use Rattle.rules.specs.Atomic.{Kept, keep, kept_by, is_granted}
-use Rattle.rules.specs.Invariant.{Granted, counted, settling, settled, held_for, Fitting, Open, sent, answered, Invariant}
+use Rattle.rules.specs.Invariant.{Granted, counted, settling, settled, held_for, Fitting, Open, sent, answered as was_answered, Invariant}
 use Rattle.rules.proofs.Accepted.{BoxOf}
 use Rattle.rules.proofs.Frames.{put, set-length, each-train, each-box, every_box, box_put, train-alone}
 use Rattle.rules.proofs.Sound.{Placed, BoxSound, MessageSound, silent, on_its_way, answering, missing, sound_iff, open_address}
@@ -120,7 +120,7 @@ own_idle t routes done i {r} h e =
       placed = h;
       message = rw e silent;
       unrecorded = λ q w. absurd (not_open e w);
-      answers = λ q c f. absurd (not_open {q = q} e (rw f (answered)));
+      answers = λ q c f. absurd (not_open {q = q} e (rw f was_answered));
     }
 
 -- Where the train asks for what it asked for before, in a message that is sound.
@@ -224,7 +224,7 @@ module _ {g : Granted} {l : Line} (h : Invariant g l) (s : Step) where
 
   answers_keeps : {q : Request} {c : ℕ} → Answers l s q c → g i ≡ eqb c 0 → Invariant g (after_message l i (Answered q c))
   answers_keeps {q} {c} w e =
-      message_keeps {q = q} w.train (rw w.sent sent) (answered) (answer-sound w) (λ z d f. e ∙ ap (λ (c : ℕ). eqb c 0) (same_code f))
+      message_keeps {q = q} w.train (rw w.sent sent) was_answered (answer-sound w) (λ z d f. e ∙ ap (λ (c : ℕ). eqb c 0) (same_code f))
 
   denies_keeps : {q : Request} {c : ℕ} → Answers l s q c → c ≢ 0 → Invariant g (after_message l i (Answered q c))
   denies_keeps {q} {c} w n = answers_keeps w (denied_new h w n ∙ sym (ne_eqb c 0 n))
@@ -246,11 +246,11 @@ module _ {g : Granted} {l : Line} (h : Invariant g l) (s : Step) where
   grants_keeps : {f : Granted} → SameBut i g f → g i ≡ false → f i ≡ true → {q : Request} → Answers l s q 0 → Invariant f (after_grant l i q)
   unfolding around around_on counted with_message
   grants_keeps {f} same new done {q} w =
-      put_keeps h w.train same (own_message w.train waiting (answered) (answer-sound w) (f i) (λ z c e. done ∙ ap (λ (c : ℕ). eqb c 0) (same_code e)))
+      put_keeps h w.train same (own_message w.train waiting was_answered (answer-sound w) (f i) (λ z c e. done ∙ ap (λ (c : ℕ). eqb c 0) (same_code e)))
       box (granted-sound _ _ i r w.train.high q ((line-sound h).boxes _ box) address)
       (by (gives_back q) refl)
       (λ z p gives _.
-      let one = open_same p (answered) in
+      let one = open_same p was_answered in
       rw (one, box_put l i _ (request_box q) _ (sized h) box) (returned_off v (somebody w.train) _ _ q (rw one at gives)))
       (λ j kj n z here unheld. granted_off (around l j) (somebody kj) _ _ v q z here (λ e _. absurd (n (sym e))) unheld)
     where

@@ -120,13 +120,13 @@ module _ (n : ℕ) (track : Track) where
         | inr a ↦ among (λ s. Memᴰ.tail) (any_before_lem l x a)
       ]
 
-  before_any : {l : List ℕ} {s : ℕ} (x : ℕ) → s ∈ l → follows track 0 s x ≡ true → any_before track l x ≡ true
+  before_any : {s : ℕ} {l : List ℕ} (x : ℕ) → s ∈ l → follows track 0 s x ≡ true → any_before track l x ≡ true
   unfolding any_before
   before_any x (Memᴰ.head e) f = rw (← e, f)
   before_any x (Memᴰ.tail {x = y} m) f = or_right (follows track 0 y x) _ (before_any x m f)
 
   -- One round keeps exactly the segments of l that come after one of b.
-  following_has : (b : List ℕ) {l : List ℕ} {x : ℕ} → x ∈ l → Before b x → x ∈ following track b l
+  following_has : (b : List ℕ) {x : ℕ} {l : List ℕ} → x ∈ l → Before b x → x ∈ following track b l
   unfolding following
   following_has b {x} (Memᴰ.head e) f = rw (← e, before_any x f.listed f.before) (Memᴰ.head refl)
   following_has b (Memᴰ.tail {x = s} m) f = keep-tail (any_before track b s) s (following_has b m f)

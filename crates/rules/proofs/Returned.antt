@@ -21,7 +21,7 @@ use Rattle.rules.specs.Line.{request_kind, request_box, around_on, around_train,
 use Rattle.rules.specs.Steps.{Step, addressed, stands, sending, with_message, cleared, step}
 use Rattle.rules.specs.History.{◌answered◌, accepted, line_after, events}
 use Rattle.rules.specs.Atomic.{Kept, keep, is_granted}
-use Rattle.rules.specs.Invariant.{Granted, settling, held_for, Open, sent, answered, Invariant}
+use Rattle.rules.specs.Invariant.{Granted, settling, held_for, Open, sent, answered as was_answered, Invariant}
 use Rattle.rules.specs.Consequences.{asks_for, some_event}
 use Rattle.rules.proofs.Tests.{facts, or-false_iff}
 use Rattle.rules.proofs.Frames.{put, box_put, every_train, every_box, train-alone}
@@ -107,7 +107,7 @@ grant_gone {l = l} h {s} {q} w gives =
     let box = box-asked (line-sound h).table ((line-sound h).trains i w.train) q address in
     let somebody = ne_eqb 0 i (λ e. omega (arith, w.train.low, e)) in
     put-gone l i (holding q) i _ (request_box q) _ somebody ((address_iff _ _ q).0 address).1 (λ z o _. rw (open_same o waiting) gives)
-    (λ _. alike_stays (message_alike _ _) (λ z o _. rw (open_same {g = Answered q 0} o (answered)) gives))
+    (λ _. alike_stays (message_alike _ _) (λ z o _. rw (open_same {g = Answered q 0} o was_answered) gives))
     (rw (box_put l i _ (request_box q) _ (sized h) box) (returned_off (around l i) somebody _ _ q gives))
 
 -- Holding z is not train i's before a step that does not ask for it: nor is it after.
@@ -140,10 +140,10 @@ module _ {granted : Granted} {l : Line} (h : Invariant granted l) {i : ℕ} {z :
   keeps_gone o (refuses n other) unasked-for = g
   keeps_gone o (sends {q} w) unasked-for =
       alone _ λ e. alike_stays (sending_alike _ _ q) λ p o. rw (open_same o sent) (λ about. unasked s i q w.kind e w.box (rw about unasked-for))
-  keeps_gone o (denies w n) unasked-for = alone _ (message_stays (rw w.sent sent) (answered))
+  keeps_gone o (denies w n) unasked-for = alone _ (message_stays (rw w.sent sent) was_answered)
   keeps_gone o (grants {q} w) unasked-for =
       let waiting : Open q (train_at l s.train).message = rw w.sent sent in
-      both _ _ _ (message_stays waiting (answered))
+      both _ _ _ (message_stays waiting was_answered)
       (λ here. granted_off (around l i) g.somebody _ _ (around l s.train) q z here (λ e. g.returns q (rw e at waiting)) (free _ here))
   keeps_gone o (hears {q} {c} w) unasked-for =
       alone _ λ _. alike_stays (heard_alike _ _ q c) (λ p o. absurd (not_open (heard_message _ _ q c) o))

@@ -22,7 +22,7 @@ use Rattle.rules.specs.Steps.{Step, apply, unless, sending, request_rows, box_ro
 use Rattle.rules.specs.History.{◌answered◌, line_after, events}
 use Rattle.rules.specs.Atomic.{Kept, is_request, keep, is_granted, added, atomic_request, atomic_step, stopped}
 use Rattle.rules.specs.Safety.{TrainOf}
-use Rattle.rules.specs.Invariant.{Granted, believing, believed, Open, sent, answered, Invariant}
+use Rattle.rules.specs.Invariant.{Granted, believing, believed, Open, sent, answered as was_answered, Invariant}
 use Rattle.rules.proofs.Tests.{cond_same, first_both}
 use Rattle.rules.proofs.Frames.{put, each-train, train-alone}
 use Rattle.rules.proofs.StepKinds.{request_kind_lem, Sends, Answers, unanswered_open, after_sending, after_message, after_grant, after_request, after_enter, after_clear, Does, refuses, sends, denies, grants, hears, retries, enters, clears}
@@ -207,7 +207,7 @@ module _ (kept : Kept) (l : Line) (h : Invariant (is_granted kept) l) (m : Remem
       (added_nothing kept s 0 (other 3 (omega arith) (omega arith)) (other 5 (omega arith) (omega arith)) (other 6 (omega arith) (omega arith)))
       (send-line (granted_other kept s 0) w (granted_some _ s.train sent-kept))
   simulates o (denies {q} {c} w n) =
-      retry c (keep_refused kept s c n) (added_refused kept s c n) w.train (rw w.sent sent) (answered)
+      retry c (keep_refused kept s c n) (added_refused kept s c n) w.train (rw w.sent sent) was_answered
   simulates o (grants {q} w) = by (kept s.train) refl
     where
       waiting : Open q (train_at l s.train).message
@@ -216,7 +216,7 @@ module _ (kept : Kept) (l : Line) (h : Invariant (is_granted kept) l) (m : Remem
       by : (z : Option Step) → kept s.train ≡ z → Simulates kept l s (record { code = 0; line = after_grant l s.train q })
       by none e =
           rw (again_line h w.train waiting (granted-none kept s.train e))
-          (retry 0 (keep_again kept s w.kind e) (added_grant kept s none w.kind e) w.train waiting (answered))
+          (retry 0 (keep_again kept s w.kind e) (added_grant kept s none w.kind e) w.train waiting was_answered)
       by (some z) e =
           let new = granted_some kept s.train e in
           let done = granted-none _ s.train (keep-granted kept s w.kind) in

@@ -65,6 +65,7 @@ message_iff v r (Lost q) = simp facts (missing, back)
     back (missing e) = e
 
 pub open_address : {v : Around} {r : Train} {g : Message} {q : Request} → MessageSound v r g → Open q g → first (address_rows v r q) ≡ 0
+open_address silent o = elim o [ ]
 open_address (on_its_way e) sent = e
 open_address (answering e f) answered = e
 open_address (missing e) lost = e

@@ -38,6 +38,7 @@ place-high (no c) h = omega (arith, h.unused c)
 
 -- So is what stands at a place of a route of an accepted table, or before the first place.
 route_high : (t : Table) → Accepted t → (i p : ℕ) → 1 ≤ i → i ≤ t.k → p ≤ (train_plan_at t i).length → route_at t.routes i p ≤ t.n
+route_high t ok zero zero l h q = absurd (omega arith)
 route_high t ok (suc i) zero l h q = unfold route_at in omega arith
 route_high t ok i (suc p) l h q = ((ok.routes i (omega arith)).segment (suc p) (omega arith) q).high
 

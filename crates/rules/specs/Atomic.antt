@@ -2,7 +2,7 @@
 -- takes each granted request whole, give-backs among them. The atomic line is a line whose trains have no messages.
 use Rattle.std.specs.Prelude.{ℕ, Bool, true, false, cond, not, ◌&&◌, ◌||◌, eqb}
 use mathlib.Core.List.{List, [], ◌∷◌, ◌++◌, Option-to_list}
-use Rattle.std.proofs.Math.Option.{Option, none, some, Option·elim}
+use mathlib.Core.Option.{Option, none, some, Option-elim}
 use Rattle.rules.specs.declared.Request.{Request}
 use Rattle.rules.specs.declared.Request.TheVariants.{Reserve, Lock, GiveBack, Unlock}
 use Rattle.rules.specs.declared.BoxPlan.{BoxPlan}
@@ -63,7 +63,7 @@ kept_after es = kept_by none_kept es
 
 -- The last request of train i that was answered 0 has been granted, or there is none.
 unfoldable pub is_granted : Kept → ℕ → Bool
-is_granted kept i = Option·elim (kept i) true (λ s. false)
+is_granted kept i = Option-elim (kept i) true (λ s. false)
 
 -- An atomic request: kind 1, 2, 7 or 8, then 3 and 4, in one. Where no code of its rows stops it, the box grants it, and the train
 -- records the holding at once, or drops the record of what it gives back.

@@ -1,10 +1,11 @@
 // The records of a line: the table that the railway writes, and the switch boxes and trains that run by it.
 // What they mean and every rule over them is in specs/, which begins with specs/Lib.antt. There is no code here.
 // Segments, boxes and trains are numbered from 1; record i of an array is the one numbered i + 1.
+#![tactic(auto)]
 
 // A segment: the box at its A end, the box at its B end, and the way in which trains pass it: 0 both ways, 1 from A to B only, 2 from
 // B to A only.
-#[derive(Drop)]
+#[derive(Clone, Copy)]
 pub struct Segment {
     pub a: u8,
     pub b: u8,
@@ -13,7 +14,7 @@ pub struct Segment {
 
 // A switch box in the table: its kind (0 border, 1 link, 2 point), the segments at its three places, and its position
 // (01: lie) at the start: 0, or at a point 1 (stem to left) or 2 (stem to right).
-#[derive(Drop)]
+#[derive(Clone, Copy)]
 pub struct BoxPlan {
     pub kind: u8,
     pub stem: u8,
@@ -23,7 +24,7 @@ pub struct BoxPlan {
 }
 
 // Which end of a box's stem segment is at the box: neither, its A end, or its B end. The first is what is read where there is no box.
-#[derive(Drop)]
+#[derive(Clone, Copy)]
 pub enum StemSide {
     Neither,
     AEnd,
@@ -31,14 +32,14 @@ pub enum StemSide {
 }
 
 // A train in the table: its direction (0 from A ends to B ends, 1 back) and its route's length.
-#[derive(Drop)]
+#[derive(Clone, Copy)]
 pub struct TrainPlan {
     pub direction: u8,
     pub length: u8,
 }
 
 // The table as read, which no step changes. The routes have 64 places a train.
-#[derive(Drop)]
+#[derive(Clone, Copy)]
 pub struct Table {
     pub version: u16,
     pub n: u8,
@@ -52,7 +53,7 @@ pub struct Table {
 
 // A switch box on the line: whether its sensor is active, its position (01: lie), the train that holds its lock, and for
 // each of its places the train that the segment there is reserved for. Nobody is 0.
-#[derive(Drop)]
+#[derive(Clone, Copy)]
 pub struct SwitchBox {
     pub sensor: bool,
     pub position: u8,
@@ -63,7 +64,7 @@ pub struct SwitchBox {
 }
 
 // What a train may hold at the box with this number: the reservation of its next segment, or the lock.
-#[derive(Drop)]
+#[derive(Clone, Copy)]
 pub enum Holding {
     NextAt(u8),
     LockAt(u8),
@@ -71,7 +72,7 @@ pub enum Holding {
 
 // What a train asks of a box, with the box's number: a reservation of the train's next segment (kind 1), the lock (kind 2); and to
 // take back that reservation (kind 7) or the lock (kind 8).
-#[derive(Drop)]
+#[derive(Clone, Copy)]
 pub enum Request {
     Reserve(u8),
     Lock(u8),
@@ -81,7 +82,7 @@ pub enum Request {
 
 // A train's one message: none, a request under way to its box, the box's answer under way back, with its code, or a request of which
 // nothing is under way: it was lost, or its answer was.
-#[derive(Drop)]
+#[derive(Clone, Copy)]
 pub enum Message {
     Idle,
     Sent(Request),
@@ -92,7 +93,7 @@ pub enum Message {
 // A train on the line: its direction and its route's length as they stand; the place of its front on that route, counted
 // from 1, and how many segments it covers; what it has recorded of its next segment: reserved at the near end, at the far
 // end, and the lock of the box ahead; and its message.
-#[derive(Drop)]
+#[derive(Clone, Copy)]
 pub struct Train {
     pub direction: u8,
     pub length: u8,
@@ -105,7 +106,7 @@ pub struct Train {
 }
 
 // A line: the table as read, and the boxes, trains and routes as they stand.
-#[derive(Drop)]
+#[derive(Clone, Copy)]
 pub struct Line {
     pub table: Table,
     pub boxes: [SwitchBox; 96],
@@ -117,7 +118,7 @@ pub struct Line {
 // front again where two are covered); whether the train runs against the way of next; the box ahead of the front and whether it is a
 // point; the boxes at the near and the far end of next; and the box between the tail and the segment after it, which is passed when the
 // tail is cleared.
-#[derive(Drop)]
+#[derive(Clone, Copy)]
 pub struct Around {
     pub number: u8,
     pub front: u8,
@@ -134,14 +135,14 @@ pub struct Around {
 
 // What a step does to its train and to the box that it concerns: refused with a code, nothing changed; or a code, and the train and
 // the box after it.
-#[derive(Drop)]
+#[derive(Clone, Copy)]
 pub enum Effect {
     Refused(u8),
     Changed(u8, Train, SwitchBox),
 }
 
 // What a call on a line ends in: a code, and the line after it.
-#[derive(Drop)]
+#[derive(Clone, Copy)]
 pub struct Outcome {
     pub code: u8,
     pub line: Line,
@@ -149,7 +150,7 @@ pub struct Outcome {
 
 // Why a call on a table or its file is refused: the code and, with 11 and 28, the train and the place on its route, counted from 1;
 // with any other code both are 0. All three are 0 where it is not refused.
-#[derive(Drop)]
+#[derive(Clone, Copy)]
 pub struct Refusal {
     pub code: u8,
     pub train: u8,
@@ -157,7 +158,7 @@ pub struct Refusal {
 }
 
 // What reading or running a table file ends in: why it is refused, and the line after it.
-#[derive(Drop)]
+#[derive(Clone, Copy)]
 pub struct FileOutcome {
     pub refusal: Refusal,
     pub line: Line,

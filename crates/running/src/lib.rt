@@ -1,4 +1,6 @@
 // A run of a table file and all its steps: the reader, then the loop over steps.
+#![tactic(auto)]
+
 mod steps;
 
 ghost use Rattle.std.specs.Prelude.{◌≡◌, ◌+◌, ◌/◌};

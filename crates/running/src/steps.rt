@@ -13,7 +13,7 @@ use rules::{Around, Effect, SwitchBox, Table, Train};
 use traincomputer::sight::around;
 
 // What steps change of a line: its boxes and trains.
-#[derive(Drop)]
+#[derive(Clone, Copy)]
 pub(crate) struct Moved {
     pub boxes: [SwitchBox; 96],
     pub trains: [Train; 16],

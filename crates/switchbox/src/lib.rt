@@ -1,5 +1,7 @@
 // What a switch box decides and does, on its plan and its record: its answer to a request, what its yes does, and what it frees
 // after a train.
+#![tactic(auto)]
+
 ghost use Rattle.std.specs.Prelude.{◌≡◌, ℕ, cond, ◌&&◌, eqb};
 ghost use Rattle.rules.specs.Rows.{first};
 ghost use Rattle.rules.specs.Track.{joins};

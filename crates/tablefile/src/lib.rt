@@ -1,4 +1,6 @@
 // A table file: why it is refused, by codes 1 to 12, 28 and 32, its table record, and the routes of its trains as parts of it.
+#![tactic(auto)]
+
 pub mod head;
 mod reader;
 mod records;
@@ -12,7 +14,7 @@ ghost use Rattle.tablefile.specs.Part.{pointer_after};
 use rules::{BoxPlan, Refusal, Segment, Table, TrainPlan};
 
 // Why a file is refused, and its table where codes 1 to 5 let the file through.
-#[derive(Drop)]
+#[derive(Clone, Copy)]
 pub struct FileTable {
     pub refusal: Refusal,
     pub table: Table,

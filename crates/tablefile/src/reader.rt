@@ -10,7 +10,7 @@ ghost use Rattle.tablefile.specs.Part.{RestOf};
 use crate::records;
 use rules::{BoxPlan, Segment, Table, TrainPlan};
 
-#[derive(Drop)]
+#[derive(Clone, Copy)]
 pub(crate) struct TableReader<'a> {
     pub(crate) bytes: &'a [u8],
     pub(crate) at: usize,

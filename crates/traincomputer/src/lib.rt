@@ -1,5 +1,7 @@
 // What a train's computer knows and decides: its messages, the codes of its requests and of Enter, and what it records. `sight` has
 // what it sees around the train.
+#![tactic(auto)]
+
 pub mod sight;
 
 ghost use Rattle.std.specs.Prelude.{◌≡◌, not, ◌&&◌, ◌||◌, eqb};

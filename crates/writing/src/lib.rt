@@ -1,4 +1,6 @@
 // The writer: a table record to the bytes of its file, in a lent buffer, by the definitions `write_refusal` and `written` of `rules`.
+#![tactic(auto)]
+
 mod records;
 
 ghost use Rattle.std.specs.Prelude.{◌≡◌, length};

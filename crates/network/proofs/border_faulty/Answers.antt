@@ -1,0 +1,20 @@
+-- Each answer is that of the definition at a border, test by test.
+use Rattle.rules.proofs.Tests.{tests}
+use Rattle.network.proofs.Laws.{plan_border}
+use Rattle.network.proofs.border_faulty.Goals as goal
+
+pub returns-then-outside : goal.returns-then-outside
+returns-then-outside c =
+    plan_border c.args.n c.args.p _ c.requires (search tests depth 8)
+
+pub returns-then-p-ne0 : goal.returns-then-p-ne0
+returns-then-p-ne0 c =
+    plan_border c.args.n c.args.p _ c.requires (search tests depth 8)
+
+pub returns-then-p-ne0-2 : goal.returns-then-p-ne0-2
+returns-then-p-ne0-2 c =
+    plan_border c.args.n c.args.p _ c.requires (search tests depth 8)
+
+pub returns : goal.returns
+returns c =
+    plan_border c.args.n c.args.p _ c.requires (search tests depth 8)

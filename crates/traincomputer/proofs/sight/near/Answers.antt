@@ -1,0 +1,12 @@
+-- Each answer is that of the definition, test by test.
+use Rattle.rules.proofs.Tests.{tests}
+use Rattle.rules.specs.Track.{near_box}
+use Rattle.traincomputer.proofs.sight.near.Goals as goal
+
+pub returns-then-d-eq0 : goal.returns-then-d-eq0
+unfolding near_box
+returns-then-d-eq0 c = search tests
+
+pub returns-else-d-eq0 : goal.returns-else-d-eq0
+unfolding near_box
+returns-else-d-eq0 c = search tests

@@ -4,5 +4,3 @@ pub mod Parts
 pub mod Placed
 pub mod Codes
 pub mod Files
-pub mod Apart
-pub mod HandsOn

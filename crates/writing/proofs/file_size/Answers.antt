@@ -1,16 +1,13 @@
-use Prim.Native.Nat.{◌+◌, ◌-◌, ◌*◌, ◌≤◌}
 use mathlib.Core.Path.{◌≡◌, sym, ◌∙◌}
-use mathlib.Core.Logic.{⊎_elim}
 use native.Mathlib.Omega.{arith}
 use borrow.Author.Rules.{rules}
 use lib.ListN.{length}
-use Rattle.rules.specs.Rows.{join_of}
-use Rattle.rules.specs.File.{segment_size, train_bytes}
 use Rattle.rules.proofs.Rows.{join_none}
 use Rattle.writing.proofs.Laws.{segments_most, trains-more, no_train_lem}
 use Rattle.rules.proofs.ReadBack.{encoded_length}
 use Rattle.rules.proofs.Rows.{length_mapped}
 use Rattle.writing.proofs.file_size.Goals as goal
+use Rattle.writing.proofs.file_size.Goals.{then-i-lt16, else-i-lt16}
 
 pub overflow_mul-size : goal.overflow_mul-size
 overflow_mul-size c = rw c.segment_size-width.ensures (omega (arith, segments_most c.args.t))
@@ -25,18 +22,15 @@ pub loop-i-init : goal.loop-i-init
 loop-i-init c =
     rw c.segment_size-width.ensures (omega arith, simp join_none (omega arith), omega (arith, segments_most c.args.t))
 
-pub overflow_cast-size-then-i-lt16 : goal.overflow_cast-size-then-i-lt16
-overflow_cast-size-then-i-lt16 c = omega (arith, c.struct_known-1.given)
-
 pub loop-i-preserved : goal.loop-i-preserved
 loop-i-preserved c =
     let t = c.args.t in
     let i = c.loop-i.i in
     let h : length t.trains ≡ 16 = search (rules, length_mapped) in
-    ⊎_elim
-    (λ w. (omega arith, omega (arith, trains-more t i), omega arith))
-    (λ w. (omega arith, omega (arith, trains-more t i, no_train_lem t i (omega arith)), omega arith))
-    c.if-i-lt16.branch
+    elim c.if-i-lt16.branch [
+      | then-i-lt16 w ↦ (omega arith, omega (arith, trains-more t i), omega arith)
+      | else-i-lt16 w ↦ (omega arith, omega (arith, trains-more t i, no_train_lem t i (omega arith)), omega arith)
+    ]
 
 pub returns : goal.returns
 returns c =

@@ -1,16 +1,9 @@
 -- `file_size` meets its contract: after i turns the size is that of the head, the segments, the boxes and i trains.
 use Prim.Native.Nat.{◌+◌, ◌-◌, ◌*◌, ◌≤◌}
-use mathlib.Core.Path.{◌≡◌, sym, ◌∙◌}
-use mathlib.Core.Logic.{⊎_elim}
-use native.Mathlib.Omega.{arith}
-use borrow.Author.Rules.{rules}
+use mathlib.Core.Path.{◌≡◌}
 use lib.ListN.{length}
 use Rattle.rules.specs.Rows.{join_of}
 use Rattle.rules.specs.File.{segment_size, train_bytes}
-use Rattle.rules.proofs.Rows.{join_none}
-use Rattle.writing.proofs.Laws.{segments_most, trains-more, no_train_lem}
-use Rattle.rules.proofs.ReadBack.{encoded_length}
-use Rattle.rules.proofs.Rows.{length_mapped}
 use Rattle.writing.proofs.file_size.Given as goal
 
 abbrev pub invariant-loop-i : goal.invariant-loop-i

@@ -1,7 +1,6 @@
 -- Each answer is that of the definition, test by test.
 use mathlib.Core.Path.{refl}
 use Rattle.rules.proofs.Tests.{tests}
-use borrow.Author.Rules.{rules}
 use Rattle.rules.specs.Record.{switch_box_fault}
 use Rattle.checking.proofs.Laws.{last_holder}
 use Rattle.checking.proofs.boxes.box_record_faulty.Goals as goal

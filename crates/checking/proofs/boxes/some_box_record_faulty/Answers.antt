@@ -1,13 +1,8 @@
-use Prim.Native.Nat.{◌-◌}
 use native.Mathlib.Omega.{arith}
-use borrow.Author.Rules.{rules}
 use borrow.Author.Tests.{lt-ltb, le-ltb}
-use Rattle.rules.specs.Rows.{nth}
-use Rattle.rules.specs.Track.{no_box_plan}
-use Rattle.rules.specs.Line.{no_box}
-use Rattle.rules.specs.Record.{switch_box_fault, switch_boxes_fault}
+use Rattle.rules.specs.Record.{switch_boxes_fault}
 use Rattle.rules.proofs.Tests.{is_true, or_left, or-last}
-use Rattle.rules.proofs.Rows.{NoneYet, none_start, none_turn, none_found, none_done}
+use Rattle.rules.proofs.Rows.{none_start, none_turn, none_found, none_done}
 use Rattle.checking.proofs.Laws.{box-answer}
 use Rattle.checking.proofs.boxes.some_box_record_faulty.Goals as goal
 

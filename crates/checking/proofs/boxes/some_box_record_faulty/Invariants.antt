@@ -1,15 +1,10 @@
 -- The loop has found nothing among the first i boxes.
 use Prim.Native.Nat.{◌-◌}
-use native.Mathlib.Omega.{arith}
-use borrow.Author.Rules.{rules}
-use borrow.Author.Tests.{lt-ltb, le-ltb}
 use Rattle.rules.specs.Rows.{nth}
 use Rattle.rules.specs.Track.{no_box_plan}
 use Rattle.rules.specs.Line.{no_box}
-use Rattle.rules.specs.Record.{switch_box_fault, switch_boxes_fault}
-use Rattle.rules.proofs.Tests.{is_true, or_left, or-last}
-use Rattle.rules.proofs.Rows.{NoneYet, none_start, none_turn, none_found, none_done}
-use Rattle.checking.proofs.Laws.{box-answer}
+use Rattle.rules.specs.Record.{switch_box_fault}
+use Rattle.rules.proofs.Rows.{NoneYet}
 use Rattle.checking.proofs.boxes.some_box_record_faulty.Given as goal
 
 abbrev pub invariant-loop-i : goal.invariant-loop-i

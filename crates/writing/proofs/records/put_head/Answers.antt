@@ -25,3 +25,7 @@ bounds-buffer-6 c = simp length-set (omega arith)
 
 pub bounds-buffer-7 : goal.bounds-buffer-7
 bounds-buffer-7 c = simp length-set (omega arith)
+
+pub returns : goal.returns
+unfolding head_bytes
+returns c = search rules

@@ -1,10 +1,5 @@
-use Prim.Native.Nat.{◌-◌, ◌≤◌}
 use mathlib.Core.Path.{◌≡◌, refl, ◌∙◌}
 use native.Mathlib.Omega.{arith}
-use lib.ListN.{length}
-use Rattle.rules.specs.Rows.{join_of}
-use Rattle.rules.specs.File.{train_bytes}
-use Rattle.writing.specs.Written.{Written}
 use Rattle.writing.proofs.Laws.{written_join_none, written-train, written-length, train-fits, route_bounded}
 use Rattle.writing.proofs.records.put_trains.Goals as goal
 
@@ -15,7 +10,11 @@ pub put_train-j-requires : goal.put_train-j-requires
 put_train-j-requires c =
     let t = c.args.t in
     let i = c.loop-i.i in
-    (omega arith, (route_bounded t i c.requires.bounded (omega arith), omega (arith, train-fits t i t.k (omega arith))))
+    record {
+      i_bound = omega arith;
+      length_bound = route_bounded t i c.requires.bounded (omega arith);
+      length_in_bounds = omega (arith, train-fits t i t.k (omega arith));
+    }
 
 pub loop-i-preserved : goal.loop-i-preserved
 loop-i-preserved c =

@@ -1,12 +1,10 @@
 -- `put_trains` meets its contract: after i turns the records of the first i trains stand from `at` up to j.
 use Prim.Native.Nat.{◌-◌, ◌≤◌}
-use mathlib.Core.Path.{◌≡◌, refl, ◌∙◌}
-use native.Mathlib.Omega.{arith}
+use mathlib.Core.Path.{◌≡◌}
 use lib.ListN.{length}
 use Rattle.rules.specs.Rows.{join_of}
 use Rattle.rules.specs.File.{train_bytes}
 use Rattle.writing.specs.Written.{Written}
-use Rattle.writing.proofs.Laws.{written_join_none, written-train, written-length, train-fits, route_bounded}
 use Rattle.writing.proofs.records.put_trains.Given as goal
 
 abbrev pub invariant-loop-i : goal.invariant-loop-i

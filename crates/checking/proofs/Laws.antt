@@ -152,7 +152,7 @@ module _ (n : ℕ) (track : Track) (way : ℕ → ℕ) (point : ℕ → Bool) (r
 -- A box of which all but the holder at its right is fine; f is what a function answered of its position.
 pub last_holder : (k : ℕ) (p : BoxPlan) (x : SwitchBox) (f z : Bool)
     → f ≡ position_fits p x.position
-    → not f ≡ false
+    → f ≡ true
     → x.lock ≤ k
     → x.stem ≤ k
     → x.left ≤ k

@@ -1,0 +1,31 @@
+-- `put_head` meets its contract: eight stores, which are the bytes of the head.
+use borrow.Author.Rules.{rules}
+use native.Mathlib.Omega.{arith}
+use lib.ListN.{length-set}
+use Rattle.rules.specs.File.{head_bytes}
+use Rattle.writing.proofs.records.put_head.Goals as goal
+
+pub bounds-buffer-1 : goal.bounds-buffer-1
+bounds-buffer-1 c = simp length-set (omega arith)
+
+pub bounds-buffer-2 : goal.bounds-buffer-2
+bounds-buffer-2 c = simp length-set (omega arith)
+
+pub bounds-buffer-3 : goal.bounds-buffer-3
+bounds-buffer-3 c = simp length-set (omega arith)
+
+pub bounds-buffer-4 : goal.bounds-buffer-4
+bounds-buffer-4 c = simp length-set (omega arith)
+
+pub bounds-buffer-5 : goal.bounds-buffer-5
+bounds-buffer-5 c = simp length-set (omega arith)
+
+pub bounds-buffer-6 : goal.bounds-buffer-6
+bounds-buffer-6 c = simp length-set (omega arith)
+
+pub bounds-buffer-7 : goal.bounds-buffer-7
+bounds-buffer-7 c = simp length-set (omega arith)
+
+pub returns : goal.returns
+unfolding head_bytes
+returns c = search rules

@@ -1,5 +1,4 @@
 -- By the code of codes 1 to 5, and then by that of the table.
-use borrow.Author.Rules.{rules}
 use Rattle.tablefile.proofs.Files.{refused_early, refused_late, file_parts}
 use Rattle.tablefile.proofs.read_table.Goals as goal
 

@@ -1,69 +1,64 @@
 -- The part is empty where the route's code is not 0, and within the file where it is.
-use Prim.Native.Nat.{◌+◌, ◌-◌, ◌≤◌}
+use Prim.Native.Nat.{◌+◌, ◌-◌}
 use mathlib.Core.Path.{◌≡◌, refl, sym, ◌∙◌, ap}
 use native.Mathlib.Omega.{arith}
-use borrow.Author.Rules.{rules}
-use lib.ListN.{length, get_or}
+use lib.ListN.{get_or}
 use Rattle.rules.specs.File.{segment_size, byte_at, segment_count, box_count, route_refusal}
-use Rattle.rules.proofs.Refusals.{code_of, numbers}
+use Rattle.rules.proofs.Refusals.{code_of, train_of, place_of}
 use Rattle.tablefile.proofs.Parts.{whole-boxes}
 use Rattle.tablefile.proofs.Placed.{placed, placed_further}
 use Rattle.tablefile.proofs.Files.{within, part_none, from-none, part_whole, part_place, part_room, part_some, from_some}
 use Rattle.tablefile.proofs.route.Goals as goal
 
--- TODO taken : (c : tie.Else1) →
--- TODO     let start = c.before.before.before.before in
--- TODO     (route_refusal start.args.bytes.now start.args.number).code ≡ 0
--- TODO taken c = code_of (sym c.before.before.route-refusal.ensures) ∙ c.if1.false
--- TODO 
 
--- TODO room : (c : tie.After-from-train) →
--- TODO     let rest = c.from-train.result.now in
--- TODO     2 + get_or rest 1 0 ≤ length rest
--- TODO room c = part_room _ _ (taken c.before.before.before.before.before) _ c.from-train.ensures.left
--- TODO 
 
 pub returns-then-refused-ne0 : goal.returns-then-refused-ne0
 returns-then-refused-ne0 c =
     let refusal = c.route_refusal-refused.ensures in
     let refused : (route_refusal _ _).code ≡ 0 → ⊥ = λ e. c.if-refused-ne0.true (code_of refusal ∙ e) in
-    numbers refusal (placed c.args.bytes.ptr _ 0 (from-none _ _ refused), part_none _ _ refused)
+    record {
+      code_after = code_of refusal;
+      train_after = train_of refusal;
+      place_after = place_of refusal;
+      ref_ptr_value = placed c.args.bytes.ref_ptr _ 0 (from-none _ _ refused);
+      result_value = part_none _ _ refused;
+    }
 
 pub bounds-bytes-5 : goal.bounds-bytes-5
-bounds-bytes-5 c = omega (arith, whole-boxes _ (part_whole _ _ (taken c)))
+bounds-bytes-5 c = omega (arith, whole-boxes _ (part_whole _ _ (code_of (sym c.route_refusal-refused.ensures) ∙ c.if-refused-ne0.false)))
 
 pub bounds-bytes-6 : goal.bounds-bytes-6
-bounds-bytes-6 c = omega (arith, whole-boxes _ (part_whole _ _ (taken c)))
+bounds-bytes-6 c = omega (arith, whole-boxes _ (part_whole _ _ (code_of (sym c.route_refusal-refused.ensures) ∙ c.if-refused-ne0.false)))
 
 pub version-requires : goal.version-requires
-version-requires c = omega (arith, whole-boxes _ (part_whole _ _ (taken c)))
+version-requires c = omega (arith, whole-boxes _ (part_whole _ _ (code_of (sym c.route_refusal-refused.ensures) ∙ c.if-refused-ne0.false)))
 
 pub overflow_sub-number : goal.overflow_sub-number
-overflow_sub-number c = (within _ _ (taken c)).1.0
+overflow_sub-number c = (within _ _ (code_of (sym c.route_refusal-refused.ensures) ∙ c.if-refused-ne0.false)).1.0
 
 pub from_train-part-requires : goal.from_train-part-requires
 unfolding segment_count box_count byte_at
 from_train-part-requires c = (
   record { segments = refl; boxes = refl; size_is = c.segment_size-size.ensures ∙ ap segment_size c.version.ensures },
-  part_place _ _ (taken c),
+  part_place _ _ (code_of (sym c.route_refusal-refused.ensures) ∙ c.if-refused-ne0.false),
 )
 
 pub bounds-part-1 : goal.bounds-part-1
-bounds-part-1 c = omega (arith, room c)
-
-pub overflow_cast-length : goal.overflow_cast-length
-overflow_cast-length c = omega (arith, c.shared_slice_known-4-1.given 1)
-
-pub overflow_add-end : goal.overflow_add-end
-overflow_add-end c = omega (arith, c.shared_slice_known-4-1.given 1)
+bounds-part-1 c = omega (arith, part_room _ _ (code_of (sym c.route_refusal-refused.ensures) ∙ c.if-refused-ne0.false) _ c.from_train-part.ensures.left)
 
 pub slice_bounds-result-end-2 : goal.slice_bounds-result-end-2
-slice_bounds-result-end-2 c = omega (arith, room c)
+slice_bounds-result-end-2 c = omega (arith, part_room _ _ (code_of (sym c.route_refusal-refused.ensures) ∙ c.if-refused-ne0.false) _ c.from_train-part.ensures.left)
 
 pub returns : goal.returns
 returns c =
     let size = get_or c.from_train-part.result.now 1 0 in
-    let z = taken c in
+    let z = code_of (sym c.route_refusal-refused.ensures) ∙ c.if-refused-ne0.false in
     let rest = c.from_train-part.ensures in
-    numbers c.route_refusal-refused.ensures
-    (placed_further _ _ _ _ 2 rest.pointer (from_some _ _ z), part_some _ _ z _ rest.left (2 + size - 2) (omega arith))
+    let refusal = c.route_refusal-refused.ensures in
+    record {
+      code_after = code_of refusal;
+      train_after = train_of refusal;
+      place_after = place_of refusal;
+      ref_ptr_value = placed_further _ _ _ _ 2 rest.pointer (from_some _ _ z);
+      result_value = part_some _ _ z _ rest.left (2 + size - 2) (omega arith);
+    }

@@ -1,5 +1,4 @@
 -- By the tests that led to each return.
-use borrow.Author.Rules.{rules}
 use Rattle.tablefile.proofs.Files.{route_refused, route_none, route_above, route_within}
 use Rattle.tablefile.proofs.route_refusal.Goals as goal
 

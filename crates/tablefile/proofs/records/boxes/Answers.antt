@@ -11,9 +11,6 @@ use Rattle.tablefile.proofs.records.boxes.Goals as goal
 pub bounds-bytes-6 : goal.bounds-bytes-6
 bounds-bytes-6 c = omega (arith, whole-boxes _ c.requires.whole)
 
-pub overflow_cast-m : goal.overflow_cast-m
-overflow_cast-m c = omega (arith, c.shared_slice_known-1.given 6)
-
 pub loop-i-init : goal.loop-i-init
 unfolding box_count byte_at
 loop-i-init c =

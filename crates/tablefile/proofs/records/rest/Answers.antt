@@ -2,7 +2,6 @@
 use Prim.Native.Nat.{◌-◌}
 use mathlib.Core.Path.{refl}
 use native.Mathlib.Omega.{arith}
-use borrow.Author.Rules.{rules}
 use lib.ListN.{length, drop, length-drop}
 use lib.Seq.{take_all}
 use Rattle.tablefile.proofs.Placed.{placed}
@@ -12,6 +11,6 @@ pub returns : goal.returns
 returns c =
     let a = c.args in
     record {
-      pointer = placed a.bytes.ptr a.at a.at refl;
+      pointer = placed a.bytes.ref_ptr a.at a.at refl;
       left = take_all (length a.bytes.now - a.at) (drop a.at a.bytes.now) (simp length-drop (omega arith));
     }

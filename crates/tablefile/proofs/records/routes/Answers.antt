@@ -10,9 +10,6 @@ use Rattle.tablefile.proofs.records.routes.Goals as goal
 pub bounds-bytes-7 : goal.bounds-bytes-7
 bounds-bytes-7 c = omega (arith, whole-boxes _ c.requires.whole)
 
-pub overflow_cast-k : goal.overflow_cast-k
-overflow_cast-k c = omega (arith, c.shared_slice_known-2-1.given 7)
-
 pub loop-i-init : goal.loop-i-init
 unfolding train_count byte_at
 loop-i-init c =
@@ -25,12 +22,6 @@ copy-requires c =
     let w = c.requires.whole in
     let r = train_room _ w _ _ c.loop-i-test.true c.loop-i.invariant.3 in
     (omega arith, omega (arith, r))
-
-pub overflow_cast-at : goal.overflow_cast-at
-overflow_cast-at c = omega (arith, c.shared_slice_known-in-loop-i-1.given (c.loop-i.at + 1))
-
-pub overflow_add-at-in-loop-i-2 : goal.overflow_add-at-in-loop-i-2
-overflow_add-at-in-loop-i-2 c = omega (arith, c.shared_slice_known-in-loop-i-1.given (c.loop-i.at + 1))
 
 pub loop-i-preserved : goal.loop-i-preserved
 unfolding train_count byte_at

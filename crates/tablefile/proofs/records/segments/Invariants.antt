@@ -1,15 +1,9 @@
 -- A turn reads one segment, which is within the file.
 use Prim.Native.Nat.{◌+◌, ◌-◌, ◌≤◌}
-use mathlib.Core.Path.{◌≡◌, sym, ◌∙◌, ap}
-use native.Mathlib.Omega.{arith}
-use borrow.Author.Rules.{rules}
-use lib.ListN.{length, get_or}
+use mathlib.Core.Path.{◌≡◌}
 use Rattle.rules.specs.Rows.{filled, list_of}
 use Rattle.rules.specs.Track.{no_segment}
-use Rattle.rules.specs.File.{segment_size, byte_at, version_in, segment_count, segment_start, segment_in}
-use Rattle.tablefile.specs.Whole.{segments_of}
-use Rattle.rules.proofs.Rows.{fill_none, fill_more}
-use Rattle.tablefile.proofs.Parts.{whole-boxes, segment_room, segment_next, segment_in_lem}
+use Rattle.rules.specs.File.{segment_start, segment_in}
 use Rattle.tablefile.proofs.records.segments.Given as goal
 
 abbrev pub invariant-loop-i : goal.invariant-loop-i

@@ -12,21 +12,12 @@ use Rattle.tablefile.proofs.records.trains.Goals as goal
 pub bounds-bytes-7 : goal.bounds-bytes-7
 bounds-bytes-7 c = omega (arith, whole-boxes _ c.requires.whole)
 
-pub overflow_cast-k : goal.overflow_cast-k
-overflow_cast-k c = omega (arith, c.shared_slice_known-1.given 7)
-
 pub loop-i-init : goal.loop-i-init
 unfolding train_count byte_at
 loop-i-init c =
     let w = c.requires.whole in
     let s = c.requires.place in
     (omega arith, omega (arith, w.trains), omega (arith, s, whole_rest _ w 0 (omega arith)), s, fill_none 16 no_train_plan _)
-
-pub overflow_cast-at : goal.overflow_cast-at
-overflow_cast-at c = omega (arith, c.shared_slice_known-in-loop-i-2-1.given (c.loop-i.at + 1))
-
-pub overflow_add-at-in-loop-i : goal.overflow_add-at-in-loop-i
-overflow_add-at-in-loop-i c = omega (arith, c.shared_slice_known-in-loop-i-2-1.given (c.loop-i.at + 1))
 
 pub loop-i-preserved : goal.loop-i-preserved
 unfolding train_count byte_at

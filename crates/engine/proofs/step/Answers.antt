@@ -570,7 +570,7 @@ returns-in-Refused c =
     let free = takes l.table s _ _ _ c.form_code-form.ensures c.if-form-ne0.false c.outside.ensures c.if-outside.false refl in
     let view = single_viewed passed free _ c.around-v.ensures in
     let alone = turned l s _ (sound passed) free _ view 0 _ (sym c.if-concerned-eq0.true ∙ c.concerned-concerned.ensures)
-        (rw (c.no_plan.ensures, c.no_box.ensures) at c.decide-d.ensures) in
+    (rw (c.no_plan.ensures, c.no_box.ensures) at c.decide-d.ensures) in
     single_refused passed alone c.in-Refused.is
 
 pub returns-in-Changed : goal.returns-in-Changed
@@ -600,7 +600,7 @@ returns-in-Changed c =
     let free = takes l.table s _ _ _ c.form_code-form.ensures c.if-form-ne0.false c.outside.ensures c.if-outside.false refl in
     let view = single_viewed passed free _ c.around-v.ensures in
     let alone = turned l s _ (sound passed) free _ view 0 _ (sym c.if-concerned-eq0.true ∙ c.concerned-concerned.ensures)
-        (rw (c.no_plan.ensures, c.no_box.ensures) at c.decide-d.ensures) in
+    (rw (c.no_plan.ensures, c.no_box.ensures) at c.decide-d.ensures) in
     single-alone passed alone c.in-Changed.is
 
 pub returns-in-Refused-d : goal.returns-in-Refused-d
@@ -631,7 +631,7 @@ returns-in-Refused-d c =
     let view = single_viewed passed free _ c.around-v.ensures in
     let box_bounds = concerned_within l s _ (sound passed) free _ view _ c.concerned-concerned.ensures c.if-concerned-eq0.false in
     let at_box = turned l s _ (sound passed) free _ view _ _
-        (sym (one_more refl box_bounds.0) ∙ c.concerned-concerned.ensures) c.decide-d-else-concerned-eq0.ensures in
+    (sym (one_more refl box_bounds.0) ∙ c.concerned-concerned.ensures) c.decide-d-else-concerned-eq0.ensures in
     single_refused passed at_box c.in-Refused-d.is
 
 pub returns-in-Changed-d : goal.returns-in-Changed-d
@@ -662,5 +662,5 @@ returns-in-Changed-d c =
     let view = single_viewed passed free _ c.around-v.ensures in
     let box_bounds = concerned_within l s _ (sound passed) free _ view _ c.concerned-concerned.ensures c.if-concerned-eq0.false in
     let at_box = turned l s _ (sound passed) free _ view _ _
-        (sym (one_more refl box_bounds.0) ∙ c.concerned-concerned.ensures) c.decide-d-else-concerned-eq0.ensures in
+    (sym (one_more refl box_bounds.0) ∙ c.concerned-concerned.ensures) c.decide-d-else-concerned-eq0.ensures in
     single-changed passed at_box c.in-Changed-d.is

@@ -3,8 +3,6 @@ use Rattle.rules.proofs.Tests.{answered}
 use Rattle.layout.proofs.Codes.{head_3, segments_4, few_boxes_4, many_boxes_4, trains_4, head_0}
 use Rattle.layout.proofs.head_code.Goals as goal
 
-
-
 pub returns-then-not-known : goal.returns-then-not-known
 returns-then-not-known c = head_3 _ _ _ _ (answered _ _ _ c.known.ensures c.if-not-known.true)
 

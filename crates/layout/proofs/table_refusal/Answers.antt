@@ -7,7 +7,6 @@ use Rattle.network.proofs.Tracks.{track-made, ways_made}
 use Rattle.layout.proofs.Codes.{parts_answer}
 use Rattle.layout.proofs.table_refusal.Goals as goal
 
-
 pub returns : goal.returns
 returns c =
     let size : length c.args.t.segments ≡ 96 = search (rules, length_mapped) in

@@ -10,13 +10,6 @@ use Rattle.network.proofs.Listed.{unlisted_by_places}
 use Rattle.network.proofs.Codes.{ends_found, network_6, network_7, boxes_8, segments_8, network_9, network_0}
 use Rattle.network.proofs.network_code.Goals as goal
 
-
-
-
-
-
-
-
 pub returns-then-some_segment_faulty : goal.returns-then-some_segment_faulty
 returns-then-some_segment_faulty c = network_6 _ _ _ _ _ (answered _ _ _ c.some_segment_faulty.ensures c.if-some_segment_faulty.true)
 

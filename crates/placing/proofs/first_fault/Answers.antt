@@ -7,7 +7,6 @@ use Rattle.rules.proofs.Rows.{route_index, route_past}
 use Rattle.placing.proofs.Routes.{searched_start, searched_turn, searched_here, searched_nothing, searched_done}
 use Rattle.placing.proofs.first_fault.Goals as goal
 
-
 pub loop-passed-init : goal.loop-passed-init
 loop-passed-init c = (omega arith, searched_start _ _ _ _ _ _)
 
@@ -15,14 +14,14 @@ pub returns-then-code-ne0 : goal.returns-then-code-ne0
 returns-then-code-ne0 c =
     let h = c.loop-passed.invariant.1 in
     let read : get_or c.args.routes.now (64 * (c.args.train - 1) + c.loop-passed.passed) 0 ≡ route_at c.args.routes.now c.args.train (c.loop-passed.passed + 1) =
-        sym (route_index _ _ _ _ (omega arith) (omega arith) (omega arith) (omega arith)) in
+    sym (route_index _ _ _ _ (omega arith) (omega arith) (omega arith) (omega arith)) in
     searched_here _ _ _ _ _ _ _ _ _ _ h (omega arith) read c.place_code-code.ensures c.if-code-ne0.true
 
 pub loop-passed-preserved : goal.loop-passed-preserved
 loop-passed-preserved c =
     let h = c.loop-passed.invariant.1 in
     let read : get_or c.args.routes.now (64 * (c.args.train - 1) + c.loop-passed.passed) 0 ≡ route_at c.args.routes.now c.args.train (c.loop-passed.passed + 1) =
-        sym (route_index _ _ _ _ (omega arith) (omega arith) (omega arith) (omega arith)) in
+    sym (route_index _ _ _ _ (omega arith) (omega arith) (omega arith) (omega arith)) in
     (omega arith, searched_turn _ _ _ _ _ _ _ _ _ _ h (omega arith) read c.place_code-code.ensures c.if-code-ne0.false)
 
 pub returns-then-r-gt64 : goal.returns-then-r-gt64

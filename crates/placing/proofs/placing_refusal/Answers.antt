@@ -6,7 +6,6 @@ use Rattle.rules.proofs.Rows.{length_mapped}
 use Rattle.placing.proofs.Routes.{few_trains, refused_10, refused_found, refused_12, refused_32, refused_0}
 use Rattle.placing.proofs.placing_refusal.Goals as goal
 
-
 pub returns-then-some_shape_faulty : goal.returns-then-some_shape_faulty
 returns-then-some_shape_faulty c = search (refused_10, answered)
 

@@ -5,7 +5,6 @@ use lib.Seq.{length-take-le}
 use Rattle.printout.proofs.Whole.{taken, answers_short, text_short, run-code-is, run_limits, file_printed, run-printed}
 use Rattle.printout.proofs.print.Goals as goal
 
-
 pub overflow_add-count : goal.overflow_add-count
 overflow_add-count c = omega (arith, taken _ _ c.taken_size-end.ensures)
 
@@ -28,7 +27,7 @@ slice_bounds-taken-end c = sym (length-take-le _ _ (taken _ _ c.taken_size-end.e
 pub returns-then-after-ne0 : goal.returns-then-after-ne0
 returns-then-after-ne0 c =
     let w = file_printed c.args.file.now c.args.input.now c.args.answers.now c.args.text.now (taken _ _ c.taken_size-end.ensures) c.if-answers-count.false c.if-text-count.false c.run-after.ensures.value
-        c.if-after-ne0.true c.run-after.ensures.answers_after c.put_file_line.ensures in
+    c.if-after-ne0.true c.run-after.ensures.answers_after c.put_file_line.ensures in
     record { code_value = w.0; length_value = w.1.0; text_after = w.1.1.0; answers_after = w.1.1.1 }
 
 pub put_run_text-requires : goal.put_run_text-requires
@@ -46,5 +45,5 @@ put_run_text-requires c =
 pub returns : goal.returns
 returns c =
     let w = run-printed c.args.file.now c.args.input.now c.args.answers.now c.args.text.now (taken _ _ c.taken_size-end.ensures) c.if-answers-count.false c.if-text-count.false c.run-after.ensures.value
-        c.if-after-ne0.false c.run-after.ensures.answers_after (c.run-after.ensures.safe_run c.if-after-ne0.false) c.put_run_text.ensures in
+    c.if-after-ne0.false c.run-after.ensures.answers_after (c.run-after.ensures.safe_run c.if-after-ne0.false) c.put_run_text.ensures in
     record { code_value = w.0; length_value = w.1.0; text_after = w.1.1.0; answers_after = w.1.1.1 }

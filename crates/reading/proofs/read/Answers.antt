@@ -11,9 +11,6 @@ use Rattle.reading.proofs.Begin.{start_line_lem}
 use Rattle.reading.proofs.Accepted.{counted, read_refused, read-accepted}
 use Rattle.reading.proofs.read.Goals as goal
 
-
-
-
 pub returns-then-early-ne0 : goal.returns-then-early-ne0
 returns-then-early-ne0 c =
     let n = c.if-early-ne0.true in
@@ -26,7 +23,7 @@ returns-then-refusal-ne0 c =
     let size : length c.table-table.result.segments ≡ 96 = search (rules, length_mapped) in
     let track = track-made _ size c.far_boxes-a.ensures c.far_boxes-b.ensures in
     let refusal = refused_late _ _ c.early_code-early.ensures c.if-early-ne0.false _ _ c.table-table.ensures
-        (parts_answer _ _ track (ways_made _ size c.ways-ways.ensures) c.parts_refusal-refusal.ensures) in
+    (parts_answer _ _ track (ways_made _ size c.ways-ways.ensures) c.parts_refusal-refusal.ensures) in
     read_refused _ _ _ refusal c.if-refusal-ne0.true c.line-then-refusal-ne0.ensures
 
 pub boxes-boxes-requires : goal.boxes-boxes-requires
@@ -46,7 +43,7 @@ returns c =
     let table = c.table-table.ensures ∙ table_some _ _ c.early_code-early.ensures c.if-early-ne0.false in
     let track = track-made _ size c.far_boxes-a.ensures c.far_boxes-b.ensures in
     let refusal = refused_late _ _ c.early_code-early.ensures c.if-early-ne0.false _ _ c.table-table.ensures
-        (parts_answer _ _ track (ways_made _ size c.ways-ways.ensures) c.parts_refusal-refusal.ensures) in
+    (parts_answer _ _ track (ways_made _ size c.ways-ways.ensures) c.parts_refusal-refusal.ensures) in
     read-accepted _ _ _ refusal _ _ c.if-refusal-ne0.false table
     (start_line_lem _ _ _ _ track c.boxes-boxes.ensures c.trains-trains.ensures)
     c.without_place-2.ensures

@@ -10,7 +10,6 @@ held : (x : SwitchBox) {a b c stem left right : ℕ} → a ≡ stem → b ≡ le
     (record { sensor = x.sensor; position = x.position; lock = x.lock; stem = stem; left = left; right = right })
 held x p q r = cc
 
-
 pub holder-requires : goal.holder-requires
 holder-requires c = tt
 

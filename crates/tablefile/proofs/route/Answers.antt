@@ -10,8 +10,6 @@ use Rattle.tablefile.proofs.Placed.{placed, placed_further}
 use Rattle.tablefile.proofs.Files.{within, part_none, from-none, part_whole, part_place, part_room, part_some, from_some}
 use Rattle.tablefile.proofs.route.Goals as goal
 
-
-
 pub returns-then-refused-ne0 : goal.returns-then-refused-ne0
 returns-then-refused-ne0 c =
     let refusal = c.route_refusal-refused.ensures in

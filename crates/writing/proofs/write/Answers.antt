@@ -21,5 +21,5 @@ put_file-requires c =
 pub returns : goal.returns
 returns c =
     let w = file_written c.args.t c.args.buffer.now _ _ c.table_refusal-refusal.ensures c.if-refusal-ne0.false (omega arith)
-        c.put_file.ensures c.without_place-2.ensures in
+    c.put_file.ensures c.without_place-2.ensures in
     record { value = w.0; buffer_after = w.1 }

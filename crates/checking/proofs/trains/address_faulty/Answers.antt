@@ -1,4 +1,3 @@
-
 use Rattle.checking.proofs.Laws.{address_answer}
 use Rattle.checking.proofs.trains.address_faulty.Goals as goal
 

@@ -3,8 +3,6 @@ use native.Mathlib.Omega.{arith}
 use Rattle.reading.proofs.Begin.{within, none_yet, turn_here, turn_nowhere}
 use Rattle.reading.proofs.start.boxes.Goals as goal
 
-
-
 pub loop-number-init : goal.loop-number-init
 loop-number-init c = (omega arith, c.free_boxes-all.ensures ∙ none_yet _ _ _ _ _)
 
@@ -33,21 +31,19 @@ pub bounds-all-at-then-not-outside : goal.bounds-all-at-then-not-outside
 bounds-all-at-then-not-outside c = omega (arith, within c.outside.ensures c.if-not-outside.true c.requires.m_bound)
 
 pub loop-number-preserved-then-not-outside : goal.loop-number-preserved-then-not-outside
-loop-number-preserved-then-not-outside c =
-    (
-      omega arith,
-      rw c.set_holder-x.ensures (
-          turn_here _ _ _ _ _ _ _ _ _ c.requires.m_bound c.loop-number.invariant.1 c.segment_at-first.ensures c.far-ahead.ensures
-          (sym c.outside.ensures ∙ c.if-not-outside.true)),
-    )
+loop-number-preserved-then-not-outside c = (
+  omega arith,
+  rw c.set_holder-x.ensures (
+      turn_here _ _ _ _ _ _ _ _ _ c.requires.m_bound c.loop-number.invariant.1 c.segment_at-first.ensures c.far-ahead.ensures
+      (sym c.outside.ensures ∙ c.if-not-outside.true)),
+)
 
 pub loop-number-preserved : goal.loop-number-preserved
-loop-number-preserved c =
-    (
-      omega arith,
-      turn_nowhere _ _ _ _ _ _ _ _ _ c.requires.m_bound c.loop-number.invariant.1 c.segment_at-first.ensures c.far-ahead.ensures
-          (sym c.outside.ensures ∙ c.if-not-outside.false),
-    )
+loop-number-preserved c = (
+  omega arith,
+  turn_nowhere _ _ _ _ _ _ _ _ _ c.requires.m_bound c.loop-number.invariant.1 c.segment_at-first.ensures c.far-ahead.ensures
+      (sym c.outside.ensures ∙ c.if-not-outside.false),
+)
 
 pub returns : goal.returns
 returns c =

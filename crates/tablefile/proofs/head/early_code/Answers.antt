@@ -5,7 +5,6 @@ use Rattle.rules.specs.File.{segment_size, byte_at, segment_count, box_count, tr
 use Rattle.tablefile.proofs.Codes.{early_1, early_2, early_head, early_5, early_0}
 use Rattle.tablefile.proofs.head.early_code.Goals as goal
 
-
 pub returns-then-bytes-lt8 : goal.returns-then-bytes-lt8
 returns-then-bytes-lt8 c = early_1 _ c.if-bytes-lt8.true
 

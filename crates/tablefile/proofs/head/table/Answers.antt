@@ -6,7 +6,6 @@ use Rattle.tablefile.proofs.Parts.{whole-boxes}
 use Rattle.tablefile.proofs.Files.{table_none, file_whole, table_some}
 use Rattle.tablefile.proofs.head.table.Goals as goal
 
-
 pub returns-then-early_code-ne0 : goal.returns-then-early_code-ne0
 returns-then-early_code-ne0 c = c.empty_table.ensures ∙ table_none _ _ c.early_code.ensures c.if-early_code-ne0.true
 

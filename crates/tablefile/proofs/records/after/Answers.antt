@@ -5,7 +5,6 @@ use native.Mathlib.Omega.{arith}
 use mathlib.Core.Path.{refl}
 use Rattle.tablefile.proofs.records.after.Goals as goal
 
-
 pub overflow_mul-result : goal.overflow_mul-result
 overflow_mul-result c = omega (arith, mul-le-mul_right c.args.size (let small : c.args.count ≤ 255 = omega arith in small))
 

@@ -5,7 +5,6 @@ use Rattle.rules.specs.File.{byte_at, segment_from}
 use Rattle.tablefile.proofs.Parts.{size_low, size_wide}
 use Rattle.tablefile.proofs.records.segment.Goals as goal
 
-
 pub bounds-bytes-at : goal.bounds-bytes-at
 bounds-bytes-at c = omega (arith, size_low c.args.version)
 

@@ -8,8 +8,6 @@ use Rattle.rules.proofs.Rows.{fill_none, fill_more}
 use Rattle.tablefile.proofs.Parts.{whole-boxes, segment_room, segment_next, segment_in_lem}
 use Rattle.tablefile.proofs.records.segments.Goals as goal
 
-
-
 pub bounds-bytes-5 : goal.bounds-bytes-5
 bounds-bytes-5 c = omega (arith, whole-boxes _ c.requires.whole)
 

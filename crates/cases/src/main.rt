@@ -11,7 +11,10 @@ mod records;
 mod runs;
 mod text;
 
-ghost use Rattle.std.specs.Prelude.{◌≡◌, length};
+ghost use Rattle.std.specs.Prelude.{◌≡◌, ◌≤◌, length};
+
+use std::io;
+use std::io::Read;
 
 // Room for a corpus.
 fn room() -> [u8; 262144]
@@ -20,8 +23,22 @@ fn room() -> [u8; 262144]
     [0; 262144]
 }
 
-fn main() {
+// Reads until the buffer is full, the input ends or a read fails, and answers how many bytes it put at the start of the buffer.
+fn read_full(input: &mut impl Read, buffer: &mut [u8]) -> usize
+    ensures { result ≤ length buffer.new }
+{
+    let mut done = 0;
+    while done < buffer.len() {
+        match input.read(&mut buffer[done..]) {
+            Ok(0) | Err(_) => break,
+            Ok(more) => done += more,
+        }
+    }
+    done
+}
+
+fn main(rt: HostRuntime) -> io::Result<()> {
     let mut corpus = room();
-    let length = io::read_full(libc::STDIN_FILENO, &mut corpus);
-    records::decide_all(&corpus[..length]);
+    let length = read_full(&mut rt.stdin(), &mut corpus);
+    records::decide_all(&rt, &corpus[..length])
 }

@@ -2,39 +2,34 @@
 // trains and boxes.
 use crate::text::{put, put_hex};
 use rules::{Line, Message, Request, SwitchBox, Train};
+use std::io;
 
 // The trains 1 to k and the boxes 1 to m, as far as there are records.
-pub(crate) fn put_line(line: Line) {
-    put(b' ');
+pub(crate) fn put_line(rt: &impl Print, line: Line) -> io::Result<()> {
+    put(rt, b' ')?;
     let trains = line.trains;
-    put_trains(trains, line.table.k as usize);
-    put(b':');
+    put_trains(rt, trains, line.table.k as usize)?;
+    put(rt, b':')?;
     let boxes = line.boxes;
-    put_boxes(boxes, line.table.m as usize);
+    put_boxes(rt, boxes, line.table.m as usize)
 }
 
-fn put_trains(trains: [Train; 16], k: usize) {
-    let mut i = 0;
-    while i < k {
-        if i < 16 {
-            put_train(trains[i]);
-        }
-        i += 1;
+fn put_trains(rt: &impl Print, trains: [Train; 16], k: usize) -> io::Result<()> {
+    for train in trains.iter().take(k) {
+        put_train(rt, *train)?;
     }
+    Ok(())
 }
 
-fn put_boxes(boxes: [SwitchBox; 96], m: usize) {
-    let mut i = 0;
-    while i < m {
-        if i < 96 {
-            put_box(boxes[i]);
-        }
-        i += 1;
+fn put_boxes(rt: &impl Print, boxes: [SwitchBox; 96], m: usize) -> io::Result<()> {
+    for switchbox in boxes.iter().take(m) {
+        put_box(rt, *switchbox)?;
     }
+    Ok(())
 }
 
 // Direction, length, place, covered, near, far, lock; and the message.
-fn put_train(train: Train) {
+fn put_train(rt: &impl Print, train: Train) -> io::Result<()> {
     let numbers = [
         train.direction,
         train.length,
@@ -44,13 +39,13 @@ fn put_train(train: Train) {
         train.far as u8,
         train.lock as u8,
     ];
-    put_hex(&numbers);
+    put_hex(rt, &numbers)?;
     let message = train.message;
-    put_message(message);
+    put_message(rt, message)
 }
 
 // Sensor, position, lock, and the holders at stem, left and right.
-fn put_box(switchbox: SwitchBox) {
+fn put_box(rt: &impl Print, switchbox: SwitchBox) -> io::Result<()> {
     let numbers = [
         switchbox.sensor as u8,
         switchbox.position,
@@ -59,29 +54,29 @@ fn put_box(switchbox: SwitchBox) {
         switchbox.left,
         switchbox.right,
     ];
-    put_hex(&numbers);
+    put_hex(rt, &numbers)
 }
 
 // A message's state (0 none, 1 sent, 2 answered, 3 lost), and its request's kind and box and its answer, 0 where there is none.
-fn put_message(message: Message) {
+fn put_message(rt: &impl Print, message: Message) -> io::Result<()> {
     match message {
-        Message::Idle => put_numbers(0, 0, 0, 0),
-        Message::Sent(q) => put_request(1, q, 0),
-        Message::Answered(q, code) => put_request(2, q, code),
-        Message::Lost(q) => put_request(3, q, 0),
+        Message::Idle => put_numbers(rt, 0, 0, 0, 0),
+        Message::Sent(q) => put_request(rt, 1, q, 0),
+        Message::Answered(q, code) => put_request(rt, 2, q, code),
+        Message::Lost(q) => put_request(rt, 3, q, 0),
     }
 }
 
-fn put_request(state: u8, q: Request, code: u8) {
+fn put_request(rt: &impl Print, state: u8, q: Request, code: u8) -> io::Result<()> {
     match q {
-        Request::Reserve(number) => put_numbers(state, 1, number, code),
-        Request::Lock(number) => put_numbers(state, 2, number, code),
-        Request::GiveBack(number) => put_numbers(state, 7, number, code),
-        Request::Unlock(number) => put_numbers(state, 8, number, code),
+        Request::Reserve(number) => put_numbers(rt, state, 1, number, code),
+        Request::Lock(number) => put_numbers(rt, state, 2, number, code),
+        Request::GiveBack(number) => put_numbers(rt, state, 7, number, code),
+        Request::Unlock(number) => put_numbers(rt, state, 8, number, code),
     }
 }
 
-fn put_numbers(state: u8, kind: u8, number: u8, code: u8) {
+fn put_numbers(rt: &impl Print, state: u8, kind: u8, number: u8, code: u8) -> io::Result<()> {
     let numbers = [state, kind, number, code];
-    put_hex(&numbers);
+    put_hex(rt, &numbers)
 }

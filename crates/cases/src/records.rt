@@ -3,6 +3,7 @@
 use crate::answers::{decide, decide_changed};
 use crate::parts::{byte, part};
 use crate::runs::{put_made_up, put_runs};
+use std::io;
 use std::num::wrapping_add_usize;
 
 // How far the corpus is done: where its next record begins, and where in it the base file and the last list of steps stand.
@@ -16,7 +17,7 @@ pub struct Place {
 }
 
 // Decides the records one after the other. There are no more of them than bytes, and nothing is decided past the end.
-pub(crate) fn decide_all(corpus: &[u8]) {
+pub(crate) fn decide_all(rt: &impl Print, corpus: &[u8]) -> io::Result<()> {
     let mut place = Place {
         next: 0,
         file: 0,
@@ -24,15 +25,14 @@ pub(crate) fn decide_all(corpus: &[u8]) {
         steps: 0,
         length: 0,
     };
-    let mut turns = corpus.len();
-    while turns > 0 {
-        place = decide_next(corpus, place);
-        turns -= 1;
+    for _ in 0..corpus.len() {
+        place = decide_next(rt, corpus, place)?;
     }
+    Ok(())
 }
 
 // Decides the next record: its kind, a number of two bytes, the high byte first, and what belongs to them.
-fn decide_next(corpus: &[u8], place: Place) -> Place {
+fn decide_next(rt: &impl Print, corpus: &[u8], place: Place) -> io::Result<Place> {
     let next = place.next;
     let kind = byte(corpus, next);
     let high = byte(corpus, wrapping_add_usize(next, 1));
@@ -41,13 +41,15 @@ fn decide_next(corpus: &[u8], place: Place) -> Place {
     let from = wrapping_add_usize(next, 3);
     let size = size_of(kind, number, byte(corpus, from), corpus.len());
     decide_record(
+        rt,
         kind,
         number,
         part(corpus, from, size),
         part(corpus, place.file, place.size),
         part(corpus, place.steps, place.length),
-    );
-    place_after(place, kind, number, from, wrapping_add_usize(from, size))
+    )?;
+    let next = wrapping_add_usize(from, size);
+    Ok(place_after(place, kind, number, from, next))
 }
 
 // How many bytes belong to a record, by its kind, its number and the byte that comes first; what is no record takes all that is left.
@@ -89,13 +91,20 @@ fn place_after(place: Place, kind: u8, number: usize, from: usize, next: usize) 
 }
 
 // Decides the record of this kind, number and bytes, for this base file and list of steps.
-fn decide_record(kind: u8, number: usize, bytes: &[u8], file: &[u8], steps: &[u8]) {
+fn decide_record(
+    rt: &impl Print,
+    kind: u8,
+    number: usize,
+    bytes: &[u8],
+    file: &[u8],
+    steps: &[u8],
+) -> io::Result<()> {
     match kind {
-        b'F' => decide(bytes),
-        b'P' => decide(part(file, 0, number)),
-        b'C' => decide_changed(file, number, byte(bytes, 0)),
-        b'S' => put_runs(file, bytes),
-        b'M' => put_made_up(file, part(steps, 0, number), bytes),
-        _ => {}
+        b'F' => decide(rt, bytes),
+        b'P' => decide(rt, part(file, 0, number)),
+        b'C' => decide_changed(rt, file, number, byte(bytes, 0)),
+        b'S' => put_runs(rt, file, bytes),
+        b'M' => put_made_up(rt, file, part(steps, 0, number), bytes),
+        _ => Ok(()),
     }
 }

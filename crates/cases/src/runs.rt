@@ -8,6 +8,7 @@ use crate::numbers::put_line;
 use crate::parts::{byte, part};
 use crate::text::{put, put_decimal};
 use rules::Line;
+use std::io;
 
 // Room for the answers to each list of steps of a corpus.
 const ROOM: usize = 4096;
@@ -17,49 +18,54 @@ const UNUSED: u8 = 0x77;
 
 // A run with a buffer one byte longer than the answers and, where there are answers, one with a buffer one byte too short. There is
 // an answer for every three bytes, and one for a rest of one or two.
-pub(crate) fn put_runs(file: &[u8], steps: &[u8]) {
+pub(crate) fn put_runs(rt: &impl Print, file: &[u8], steps: &[u8]) -> io::Result<()> {
     let bytes = steps.len();
     let count = bytes / 3 + (bytes % 3 + 1) / 2;
     if count < ROOM {
-        put_run_in(count + 1, file, steps);
+        put_run_in(rt, count + 1, file, steps)?;
         if count > 0 {
-            put(b' ');
-            put_run_in(count - 1, file, steps);
+            put(rt, b' ')?;
+            put_run_in(rt, count - 1, file, steps)?;
         }
     }
-    put(b'\n');
+    put(rt, b'\n')
 }
 
 // A run with a buffer of this size.
-fn put_run_in(size: usize, file: &[u8], steps: &[u8])
+fn put_run_in(rt: &impl Print, size: usize, file: &[u8], steps: &[u8]) -> io::Result<()>
     requires { size ≤ 4096 }
 {
     let mut buffer = [UNUSED; ROOM];
-    put_run(file, steps, &mut buffer[0..size]);
+    put_run(rt, file, steps, &mut buffer[0..size])
 }
 
 // A run's refusal, the whole lent buffer after it, and the line.
-fn put_run(file: &[u8], steps: &[u8], buffer: &mut [u8]) {
+fn put_run(rt: &impl Print, file: &[u8], steps: &[u8], buffer: &mut [u8]) -> io::Result<()> {
     let outcome = engine::run(file, steps, buffer);
-    put_refused(outcome.refusal, buffer);
-    put_line(outcome.line);
+    put_refused(rt, outcome.refusal, buffer)?;
+    put_line(rt, outcome.line)
 }
 
 // One step on the line that some steps lead to, with changes. `made` has the number of the changes, the changes of four bytes each,
 // and the step.
-pub(crate) fn put_made_up(file: &[u8], steps: &[u8], made: &[u8]) {
+pub(crate) fn put_made_up(
+    rt: &impl Print,
+    file: &[u8],
+    steps: &[u8],
+    made: &[u8],
+) -> io::Result<()> {
     let mut buffer = [UNUSED; ROOM];
     let start = engine::run(file, steps, &mut buffer);
     let count = byte(made, 0);
     let size = 4 * (count as usize);
     let line = altered(start.line, part(made, 1, size), count);
-    put_step(line, part(made, size + 1, 3));
+    put_step(rt, line, part(made, size + 1, 3))
 }
 
 // A step's code, and the line after it.
-fn put_step(line: Line, step: &[u8]) {
+fn put_step(rt: &impl Print, line: Line, step: &[u8]) -> io::Result<()> {
     let outcome = engine::step(line, byte(step, 0), byte(step, 1), byte(step, 2));
-    put_decimal(outcome.code);
-    put_line(outcome.line);
-    put(b'\n');
+    put_decimal(rt, outcome.code)?;
+    put_line(rt, outcome.line)?;
+    put(rt, b'\n')
 }

@@ -1,24 +1,22 @@
 // Text on standard output.
-use libc::STDOUT_FILENO;
+use std::io;
 
-pub(crate) fn put(character: u8) {
-    let text = [character];
-    io::write_all(STDOUT_FILENO, &text);
+pub(crate) fn put(rt: &impl Print, character: u8) -> io::Result<()> {
+    rt.write_all(&[character])
 }
 
-pub(crate) fn put_decimal(number: u8) {
-    io::print_decimal(STDOUT_FILENO, number as u64);
+pub(crate) fn put_decimal(rt: &impl Print, number: u8) -> io::Result<()> {
+    rt.print(number)
 }
 
 // Two hexadecimal digits for each byte.
-pub(crate) fn put_hex(bytes: &[u8]) {
-    let mut i = 0;
-    while i < bytes.len() {
-        put_byte(bytes[i]);
-        i += 1;
+pub(crate) fn put_hex(rt: &impl Print, bytes: &[u8]) -> io::Result<()> {
+    for byte in bytes {
+        put_byte(rt, *byte)?;
     }
+    Ok(())
 }
 
-fn put_byte(byte: u8) {
-    io::print_hex(STDOUT_FILENO, byte as u64, 2);
+fn put_byte(rt: &impl Print, byte: u8) -> io::Result<()> {
+    print!(rt; "{byte:02x}")
 }

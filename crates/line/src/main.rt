@@ -2,11 +2,12 @@
 // what 01 says ("Table S and its printout").
 #![tactic(auto)]
 
-ghost use Rattle.std.specs.Prelude.{◌≡◌, length, take};
-ghost use Rattle.io.specs.Counts.{IsPrefixLen};
+ghost use Rattle.std.specs.Prelude.{◌≡◌, ◌≤◌, length, take};
 ghost use Rattle.rules.specs.Printout.{most_file, most_input, printout};
 
-use libc::{STDIN_FILENO, STDOUT_FILENO};
+use std::io::Read;
+use std::rt::Files;
+use std::{fs, io};
 
 // The most bytes that are read of the file and of the input. What lies beyond changes nothing in what is printed (`Enough` in
 // crates/rules/specs/Printout.antt).
@@ -32,35 +33,42 @@ fn input_buffer() -> [u8; MOST_INPUT]
 
 // Reads until the buffer is full or the file ends, and answers how many bytes it put at the start of the buffer; 0 where a read
 // fails.
-fn read_whole(fd: i32, buffer: &mut [u8]) -> usize
-    ensures { IsPrefixLen result buffer.new }
+fn read_whole(file: &mut impl Read, buffer: &mut [u8]) -> usize
+    ensures { result ≤ length buffer.new }
 {
     let mut done = 0;
     while done < buffer.len() {
-        let got = libc::read(fd, &mut buffer[done..]);
-        if got < 0 {
-            return 0;
+        match file.read(&mut buffer[done..]) {
+            Ok(0) => return done,
+            Ok(more) => done += more,
+            Err(_) => return 0,
         }
-        let more = io::count(got, &buffer[done..]);
-        if more == 0 {
-            return done;
-        }
-        done += more;
     }
     done
 }
 
 // The same of the file `net`, with 0 where it cannot be opened.
-fn read_net(buffer: &mut [u8]) -> usize
-    ensures { IsPrefixLen result buffer.new }
+fn read_net(rt: &impl Files, buffer: &mut [u8]) -> usize
+    ensures { result ≤ length buffer.new }
 {
-    let fd = os::open_read(&[b'n', b'e', b't']);
-    if fd < 0 {
-        return 0;
+    match fs::open(rt, "net") {
+        Ok(mut file) => read_whole(&mut file, buffer),
+        Err(_) => 0,
     }
-    let size = read_whole(fd, buffer);
-    libc::close(fd);
-    size
+}
+
+// Reads until the buffer is full, the input ends or a read fails, and answers how many bytes it put at the start of the buffer.
+fn read_full(input: &mut impl Read, buffer: &mut [u8]) -> usize
+    ensures { result ≤ length buffer.new }
+{
+    let mut done = 0;
+    while done < buffer.len() {
+        match input.read(&mut buffer[done..]) {
+            Ok(0) | Err(_) => break,
+            Ok(more) => done += more,
+        }
+    }
+    done
 }
 
 // Puts what is printed at the start of the text's buffer, and answers its length.
@@ -70,7 +78,7 @@ fn put_text(
     answers: &mut [u8; MOST_STEPS],
     text: &mut [u8; MOST_TEXT],
 ) -> usize
-    ensures prefix_len { IsPrefixLen result text.new }
+    ensures prefix_len { result ≤ length text.new }
     ensures text_after { take result text.new ≡ printout net.now input.now }
 {
     let printed = printout::print(net, input, answers, text);
@@ -78,29 +86,30 @@ fn put_text(
 }
 
 // Writes the first bytes of a buffer to standard output.
-fn write_front(text: &[u8], length: usize)
-    requires { IsPrefixLen length text.now }
+fn write_front(rt: &impl Print, text: &[u8], size: usize) -> io::Result<()>
+    requires { size ≤ length text.now }
 {
-    io::write_all(STDOUT_FILENO, &text[..length]);
+    rt.write_all(&text[..size])
 }
 
 // Writes what is printed to standard output.
 fn write_text(
+    rt: &impl Print,
     net: &[u8],
     input: &[u8],
     answers: &mut [u8; MOST_STEPS],
     text: &mut [u8; MOST_TEXT],
-) {
+) -> io::Result<()> {
     let length = put_text(net, input, answers, text);
-    write_front(text, length);
+    write_front(rt, text, length)
 }
 
-fn main() {
+fn main(rt: HostRuntime) -> io::Result<()> {
     let mut net = file_buffer();
-    let size = read_net(&mut net);
+    let size = read_net(&rt, &mut net);
     let mut input = input_buffer();
-    let length = io::read_full(STDIN_FILENO, &mut input);
+    let length = read_full(&mut rt.stdin(), &mut input);
     let mut answers = [0u8; MOST_STEPS];
     let mut text = [0u8; MOST_TEXT];
-    write_text(&net[..size], &input[..length], &mut answers, &mut text);
+    write_text(&rt, &net[..size], &input[..length], &mut answers, &mut text)
 }

@@ -25,16 +25,16 @@ module _ (i : ℕ) (r v : Bool) where
 
 -- What is at fault with a plan of kind k, by the tests of its parts: the stem, a needed and an unused left, a needed and an unused right,
 -- equal branches, the position.
-module _ (k : ℕ) (stem left noLeft right noRight same position : Bool) where
+module _ (k : ℕ) (stem left no_left right no_right same position : Bool) where
   abbrev ByKind : Bool → Type 0
   ByKind v =
-      (ltb 2 k || stem || cond (leb 1 k) left noLeft || cond (eqb k 2) right noRight || (eqb k 2 && same) || position) ≡ v
+      (ltb 2 k || stem || cond (leb 1 k) left no_left || cond (eqb k 2) right no_right || (eqb k 2 && same) || position) ≡ v
 
-  kind_0 : k ≡ 0 → ByKind (stem || noLeft || noRight || position)
-  kind_0 e = rw e (ap (λ (x : Bool). x || position) (or-none (stem || noLeft || noRight)))
+  kind_0 : k ≡ 0 → ByKind (stem || no_left || no_right || position)
+  kind_0 e = rw e (ap (λ (x : Bool). x || position) (or-none (stem || no_left || no_right)))
 
-  kind_1 : k ≡ 1 → ByKind (stem || left || noRight || position)
-  kind_1 e = rw e (ap (λ (x : Bool). x || position) (or-none (stem || left || noRight)))
+  kind_1 : k ≡ 1 → ByKind (stem || left || no_right || position)
+  kind_1 e = rw e (ap (λ (x : Bool). x || position) (or-none (stem || left || no_right)))
 
   kind_2 : k ≡ 2 → ByKind (stem || left || right || same || position)
   kind_2 e = rw e

@@ -261,10 +261,10 @@ pub sides_iff : (track : Track) (b : ℕ) (p : BoxPlan) → (box_fault track b p
 unfolding box_fault
 sides_iff track b p =
     simp (facts, listed_iff, side_iff) (
-      λ ((((stem, left), right), leftSide), rightSide).
+      λ ((((stem, left), right), left_side), right_side).
           record {
             ends = λ s l. ⊎_elim (λ e. rw e at stem) (λ (y, e). each_branch p (λ s. s ≢ 0 → EndAt track s b) left right y s e) ((lists_iff p s).0 l);
-            opposite = each_branch p (λ s. s ≢ 0 → (d : ℕ) → near_box track d p.stem ≡ b → near_box track d s ≢ b) leftSide rightSide;
+            opposite = each_branch p (λ s. s ≢ 0 → (d : ℕ) → near_box track d p.stem ≡ b → near_box track d s ≢ b) left_side right_side;
           },
       λ h.
           let ends : (s : ℕ) → Stands p s → s ≢ 0 → EndAt track s b = λ s l. h.ends s ((lists_iff p s).1 l) in

@@ -86,12 +86,12 @@ pub record Change (a : Line) (i : ℕ) (r : Train) (b : ℕ) (x : SwitchBox) : T
       : (j : ℕ) → TrainOf a.table j → j ≢ i → Fits a.table a.routes j (train_at a j) b (box_at a b)
       → Fits a.table a.routes j (train_at a j) b x
   pub with_next : (r.near || r.far || r.lock) ≡ true → r.place < r.length
-  pub crossedHere
+  pub crossed_here
       : x.sensor ≡ true
       → ((q : ℕ) × CrossesAt a.table a.routes i r q b)
       ⊎ (((box_at a b).sensor ≡ true)
       × ((q : ℕ) → CrossesAt a.table a.routes i (train_at a i) q b → CrossesAt a.table a.routes i r q b))
-  pub crossedElsewhere
+  pub crossed_elsewhere
       : (c : ℕ) → c ≢ b → (q : ℕ) → CrossesAt a.table a.routes i (train_at a i) q c
       → CrossesAt a.table a.routes i r q c
 
@@ -164,8 +164,8 @@ module _ {a : Line} (h : Steady a) {i : ℕ} (k : TrainOf a.table i) {r : Train}
             (λ j kj n. h.fitting.with_next j kj);
         sensed_crossed =
             boxes (λ c y. y.sensor ≡ true → Crossed after c)
-            (λ e. ⊎_elim (λ (q, w). crossed_here q w) (λ (f, still). crossed-still b f still) (g.crossedHere e))
-            (λ c n e. crossed-still c e (g.crossedElsewhere c n));
+            (λ e. ⊎_elim (λ (q, w). crossed_here q w) (λ (f, still). crossed-still b f still) (g.crossed_here e))
+            (λ c n e. crossed-still c e (g.crossed_elsewhere c n));
       }
 
 -- A train that crosses a box covers the segment at its stem. So one train at most crosses it.

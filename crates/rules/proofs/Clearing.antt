@@ -161,8 +161,8 @@ module _ {a : Line} (h : Steady a) {i : ℕ} (k : TrainOf a.table i) where
             sensed = λ q w. absurd (n (crossed_once h kj k w passing));
           };
           with_next = h.fitting.with_next i k;
-          crossedHere = λ e. absurd (false≢true e);
-          crossedElsewhere = λ c n q w. crosses_on n w;
+          crossed_here = λ e. absurd (false≢true e);
+          crossed_elsewhere = λ c n q w. crosses_on n w;
         }
 
   -- Where the row of codes stops nothing.

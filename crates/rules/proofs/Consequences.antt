@@ -75,17 +75,17 @@ consequences bytes e steps =
       checked_line = checked-line (start_line t) (λ z. (after z).sound) steps;
       checked_events = checked-events (start_line t) (λ z. (after z).sound) steps;
       occupied = occupied a steps;
-      lockTold = λ i q b k c s kind box u asked. lock_told h s b kind box (known s.train u) asked (sensed-there a steps k c);
+      lock_told = λ i q b k c s kind box u asked. lock_told h s b kind box (known s.train u) asked (sensed-there a steps k c);
       along = λ i k q c. along_way _ _ (a.routes i k).direction (reserved_along t l along _ _ i (covered-held a steps k c) k);
-      wayTold = λ s b kind box k asked against.
+      way_told = λ s b kind box k asked against.
           way_told t l (line-fixed a steps) along s b kind box k asked (rw (next-there a steps s.train k) against);
       silent = λ s. silent h s _ (does (reached t steps) s);
       atomic_line = same_atomic a steps;
-      answeredYes = λ s q kind box k. answered_yes (reached t steps) s q kind box (known s.train k);
-      heardYes = λ i k q c. yes_heard h (known i k);
+      answered_yes = λ s q kind box k. answered_yes (reached t steps) s q kind box (known s.train k);
+      heard_yes = λ i k q c. yes_heard h (known i k);
       returned = returned kept h;
       again = again kept l h;
       once = once kept l h;
-      otherTrains = λ s. other_trains (does (reached t steps) s);
-      otherBoxes = λ s. other_boxes (does (reached t steps) s);
+      other_trains = λ s. other_trains (does (reached t steps) s);
+      other_boxes = λ s. other_boxes (does (reached t steps) s);
     }

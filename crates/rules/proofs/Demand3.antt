@@ -206,7 +206,7 @@ module _ {t : Table} (a : Accepted t) where
             rw (box-quiet (settles steps), f.table, f.routes) at
             (crossed-joined (steady (invariant_after steps)) (known steps k) (crosses steps k c) (rw f.table e));
         still = λ s i k q b c. (boxes_still (does (reached t steps) s) b).before (sensed-there steps k c);
-        stillAfter = λ s i k q b c.
+        still_after = λ s i k q b c.
             (boxes_still (does (reached t steps) s) b).after (rw (reached-next steps s) at (sensed-there (steps ++ (s ∷ [])) k c));
         sound = (invariant_after steps).sound;
         fixed = line-fixed steps;

@@ -38,8 +38,8 @@ module _ {a : Line} (h : Steady a) {i : ℕ} (k : TrainOf a.table i) where
   asked = route_at routes i (r.place + 1)
 
   -- Enter: what the train needs from now on it needed before, as its next segment with both ends and the lock.
-  module _ (next : r.place < r.length) (nearHeld : r.near ≡ true) (farHeld : r.far ≡ true)
-      (lockHeld : is_point (plan_at t (box_beyond t routes i r r.place)) ≡ true → r.lock ≡ true) where
+  module _ (next : r.place < r.length) (near_held : r.near ≡ true) (far_held : r.far ≡ true)
+      (lock_held : is_point (plan_at t (box_beyond t routes i r r.place)) ≡ true → r.lock ≡ true) where
     abbrev box-entered : ℕ
     box-entered = box_beyond t routes i r r.place
 
@@ -71,10 +71,10 @@ module _ {a : Line} (h : Steady a) {i : ℕ} (k : TrainOf a.table i) where
 
     needs_entered : {c s : ℕ} → Needs t routes i (entered r) c s → Needs t routes i r c s
     unfolding entered
-    needs_entered (ahead w) = ⊎_elim (λ e. rw e (far_recorded farHeld)) ahead (covers_entered w)
+    needs_entered (ahead w) = ⊎_elim (λ e. rw e (far_recorded far_held)) ahead (covers_entered w)
     needs_entered (crossed w) =
         ⊎_elim
-        (λ (e, f). rw (e, f, between (h.placed i k).route r.place (front_low h k) next) (near_recorded nearHeld))
+        (λ (e, f). rw (e, f, between (h.placed i k).route r.place (front_low h k) next) (near_recorded near_held))
         crossed
         (crosses-entered w)
     needs_entered (near_recorded e) = absurd (false≢true e)
@@ -83,7 +83,7 @@ module _ {a : Line} (h : Steady a) {i : ℕ} (k : TrainOf a.table i) where
     locks-entered : {c : ℕ} → NeedsLock t routes i (entered r) c → NeedsLock t routes i r c
     unfolding entered
     locks-entered (crossed_point w p) =
-        ⊎_elim (λ (e, f). rw f (lock_recorded (lockHeld (rw f at p)))) (λ u. crossed_point u p) (crosses-entered w)
+        ⊎_elim (λ (e, f). rw f (lock_recorded (lock_held (rw f at p)))) (λ u. crossed_point u p) (crosses-entered w)
     locks-entered (lock_recorded e) = absurd (false≢true e)
 
     uses_entered : (c y : ℕ) → UsesLock t routes i r c y → UsesLock t routes i (entered r) c y
@@ -97,8 +97,8 @@ module _ {a : Line} (h : Steady a) {i : ℕ} (k : TrainOf a.table i) where
         let holder : ℕ → ℕ = λ b. holder_of (plan_at t b) (box_at a b) asked in
         let theirs : holder (far_box (track_of t) d asked) ≡ j = rw e ((h.fitting.fits j kj _).reserved _ (ahead w)) in
         ⊎_elim
-        (λ f. sym ((fits h k _).reserved _ (near_recorded nearHeld)) ∙ ap holder (f ∙ sym (far_back (track_of t) d asked)) ∙ theirs)
-        (λ f. sym ((fits h k _).reserved _ (far_recorded farHeld)) ∙ ap holder (f ∙ sym (far_back (track_of t) d asked)) ∙ theirs)
+        (λ f. sym ((fits h k _).reserved _ (near_recorded near_held)) ∙ ap holder (f ∙ sym (far_back (track_of t) d asked)) ∙ theirs)
+        (λ f. sym ((fits h k _).reserved _ (far_recorded far_held)) ∙ ap holder (f ∙ sym (far_back (track_of t) d asked)) ∙ theirs)
         (either_end (track_of t) asked r.direction (back d))
 
     entering : CrossesAt t routes i (entered r) r.place box-entered
@@ -135,8 +135,8 @@ module _ {a : Line} (h : Steady a) {i : ℕ} (k : TrainOf a.table i) where
           }) (fits h k c);
           others = λ j kj n f. record { reserved = f.reserved; locked = f.locked; used = f.used; sensed = λ q w. refl };
           with_next = λ e. absurd (false≢true e);
-          crossedHere = λ _. inl (r.place, entering);
-          crossedElsewhere = λ c n q w. record { from = covers_on w.from; to = covers_on w.to; between = w.between };
+          crossed_here = λ _. inl (r.place, entering);
+          crossed_elsewhere = λ c n q w. record { from = covers_on w.from; to = covers_on w.to; between = w.between };
         }
 
   -- Where the row of codes stops nothing.

@@ -74,8 +74,8 @@ module _ {a : Line} (h : Steady a) {i : ℕ} (k : TrainOf a.table i) where
           elsewhere = λ c n. less c;
           others = λ j kj n f. f;
           with_next = λ e. h.fitting.with_next i k (some_recorded e);
-          crossedHere = λ e. inr (e, λ q w. w);
-          crossedElsewhere = λ c n q w. w;
+          crossed_here = λ e. inr (e, λ q w. w);
+          crossed_elsewhere = λ c n q w. w;
         })
       where
         less : (c : ℕ) → Fits t routes i lesser c (box_at a c)
@@ -136,8 +136,8 @@ module _ {a : Line} (h : Steady a) {i : ℕ} (k : TrainOf a.table i) where
             sensed = f.sensed;
           };
           with_next = λ _. next;
-          crossedHere = λ e. inr (e, λ q w. w);
-          crossedElsewhere = λ c n q w. w;
+          crossed_here = λ e. inr (e, λ q w. w);
+          crossed_elsewhere = λ c n q w. w;
         }
 
   -- The point ahead frees its lock, which was the train's, and which it has not recorded.
@@ -168,8 +168,8 @@ module _ {a : Line} (h : Steady a) {i : ℕ} (k : TrainOf a.table i) where
             sensed = f.sensed;
           };
           with_next = h.fitting.with_next i k;
-          crossedHere = λ e. inr (e, λ q w. w);
-          crossedElsewhere = λ c n q w. w;
+          crossed_here = λ e. inr (e, λ q w. w);
+          crossed_elsewhere = λ c n q w. w;
         }
 
   -- The box answers a give-back of what is not recorded.

@@ -132,8 +132,8 @@ module _ {a : Line} (h : Steady a) {i : ℕ} (k : TrainOf a.table i) where
             sensed = λ q w. sensor ∙ f.sensed q w;
           };
           with_next = λ _. next;
-          crossedHere = λ e. inr (sym sensor ∙ e, λ q w. w);
-          crossedElsewhere = λ c n q w. w;
+          crossed_here = λ e. inr (sym sensor ∙ e, λ q w. w);
+          crossed_elsewhere = λ c n q w. w;
         }
 
   -- A lock. The box ahead has become x, in which the lock is the train's, which has a use for it; it was nobody's or the train's own, and
@@ -187,8 +187,8 @@ module _ {a : Line} (h : Steady a) {i : ℕ} (k : TrainOf a.table i) where
             sensed = λ q w. sensor ∙ f.sensed q w;
           };
           with_next = λ _. next;
-          crossedHere = λ e. inr (sym sensor ∙ e, λ q w. w);
-          crossedElsewhere = λ c n q w. w;
+          crossed_here = λ e. inr (sym sensor ∙ e, λ q w. w);
+          crossed_elsewhere = λ c n q w. w;
         }
 
   -- The position that a point gets with its lock joins front and next.

@@ -43,7 +43,7 @@ pub record Consequences (t : Table) (steps : List Step) : Type 0 where
   -- No step is answered 23: no box says it (kind 3), and no train hears it (kind 4).
   pub occupied : (s : Step) → (step (reached t steps) s).code ≢ 23
   -- While a train crosses a point, a request for that point's lock is answered 24.
-  pub lockTold
+  pub lock_told
       : (i q b : ℕ) → TrainOf t i → CrossesBox t i (where_is t steps i) q b → (s : Step) → s.kind ≡ 3 → s.box ≡ 0 → TrainOf t s.train
       → (train_at (reached t steps) s.train).message ≡ Sent (Lock b) → (step (reached t steps) s).code ≡ 24
   -- No train covers a segment against its way, neither at the start nor by entering it: what runs from A to B only (1) is covered in
@@ -52,7 +52,7 @@ pub record Consequences (t : Table) (steps : List Step) : Type 0 where
       : (i : ℕ) → TrainOf t i → (q : ℕ) → Covers (where_is t steps i) q
       → (way_of t (on_route t i q) ≡ 1 → (train_plan_at t i).direction ≡ 0) × (way_of t (on_route t i q) ≡ 2 → (train_plan_at t i).direction ≡ 1)
   -- A reservation of a segment against its way is answered 31.
-  pub wayTold
+  pub way_told
       : (s : Step) (b : ℕ) → s.kind ≡ 3 → s.box ≡ 0 → TrainOf t s.train
       → (train_at (reached t steps) s.train).message ≡ Sent (Reserve b)
       → runs_against (train_plan_at t s.train).direction (way_of t (on_route t s.train ((where_is t steps s.train).place + 1))) ≡ true
@@ -64,10 +64,10 @@ pub record Consequences (t : Table) (steps : List Step) : Type 0 where
   -- not heard yet, and what they are giving back until the box has answered.
   pub atomic_line : atomic t steps ≡ believed (granted_after t steps) (reached t steps)
   -- A box answers a give-back with 0, and 0 is what the train hears.
-  pub answeredYes
+  pub answered_yes
       : (s : Step) (q : Request) → s.kind ≡ 3 → s.box ≡ 0 → TrainOf t s.train
       → (train_at (reached t steps) s.train).message ≡ Sent q → gives_back q ≡ true → (step (reached t steps) s).code ≡ 0
-  pub heardYes
+  pub heard_yes
       : (i : ℕ) → TrainOf t i → (q : Request) (c : ℕ) → (train_at (reached t steps) i).message ≡ Answered q c → gives_back q ≡ true → c ≡ 0
   -- What is given back and answered is not the train's at that box, until it asks for it again.
   pub returned
@@ -91,9 +91,9 @@ pub record Consequences (t : Table) (steps : List Step) : Type 0 where
       → let later = line_after step now between in
       (now.boxes ≡ (reached t steps).boxes) ⊎ ((step later (answer_step i)).line.boxes ≡ later.boxes)
   -- A step changes no other train, and at most one box.
-  pub otherTrains
+  pub other_trains
       : (s : Step) (j : ℕ) → j ≢ s.train → train_at (step (reached t steps) s).line j ≡ train_at (reached t steps) j
-  pub otherBoxes
+  pub other_boxes
       : (s : Step) → (b : ℕ) × ((c : ℕ) → c ≢ b → box_at (step (reached t steps) s).line c ≡ box_at (reached t steps) c)
 
 -- For every file that is accepted and every list of steps.

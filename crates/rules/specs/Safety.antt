@@ -87,7 +87,7 @@ module _ (t : Table) (steps : List Step) where
     pub still
         : (s : Step) (i : ℕ) → TrainOf t i → (q b : ℕ) → CrossesBox t i (where_is i) q b
         → (box_at (step reached s).line b).position ≡ (box_at reached b).position
-    pub stillAfter
+    pub still_after
         : (s : Step) (i : ℕ) → TrainOf t i → (q b : ℕ)
         → CrossesBox t i (place_after i (events step (start_line t) (steps ++ (s ∷ [])))) q b
         → (box_at (step reached s).line b).position ≡ (box_at reached b).position

@@ -13,9 +13,8 @@ use Rattle.rules.specs.declared.Line.{Line}
 use Rattle.rules.specs.Track.{plan_at, route_at}
 use Rattle.rules.specs.Loop.{SegmentOf}
 use Rattle.rules.specs.Line.{box_at, train_at, put_train, put_box}
-use Rattle.rules.specs.Steps.{sensed}
 use Rattle.rules.specs.Safety.{TrainOf, Covers, place_in, place_of}
-use Rattle.rules.specs.Invariant.{box_beyond, CrossesAt, Needs, ahead, NeedsLock, UsesLock, Fits, Crossed, Fitting}
+use Rattle.rules.specs.Invariant.{box_beyond, CrossesAt, Needs, NeedsLock, UsesLock, Fits, Crossed, Fitting}
 use Rattle.rules.proofs.Accepted.{Accepted, BoxOf}
 use Rattle.rules.proofs.Boxes.{far_box_lem, joint, joint_stem}
 use Rattle.rules.proofs.Routes.{between, far_once}

@@ -13,7 +13,7 @@ use Rattle.rules.specs.declared.Line.{Line}
 use Rattle.rules.specs.Rows.{first}
 use Rattle.rules.specs.Track.{plan_at, route_at}
 use Rattle.rules.specs.Line.{around_on, around, box_at, train_at, holder_of, set_holder}
-use Rattle.rules.specs.Steps.{clear_rows, sensed, cleared, released}
+use Rattle.rules.specs.Steps.{clear_rows, cleared, released}
 use Rattle.rules.specs.Safety.{TrainOf, Covers, place_in}
 use Rattle.rules.specs.Invariant.{box_beyond, CrossesAt, Needs, ahead, crossed, near_recorded, far_recorded, NeedsLock, crossed_point, lock_recorded, UsesLock, Fitting}
 use Rattle.rules.proofs.Routes.{between, far_once}

@@ -7,7 +7,6 @@ use Rattle.rules.specs.declared.Holding.{Holding}
 use Rattle.rules.specs.declared.Holding.TheVariants.{NextAt, LockAt}
 use Rattle.rules.specs.declared.Train.{Train}
 use Rattle.rules.specs.declared.Around.{Around}
-use Rattle.rules.specs.Line.{holding}
 use Rattle.rules.specs.Steps.{addressed, recorded, with_holding, without_holding}
 use Rattle.rules.proofs.Tests.{facts, or-false, or-false-left, or-false_right}
 

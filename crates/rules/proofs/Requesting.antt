@@ -19,7 +19,7 @@ use Rattle.rules.specs.Rows.{first}
 use Rattle.rules.specs.Track.{plan_at, route_at, is_point}
 use Rattle.rules.specs.Network.{lists}
 use Rattle.rules.specs.Line.{request_box, around_on, around_train, around, box_at, train_at, holder_of, set_holder, holding, gives_back, holding_box}
-use Rattle.rules.specs.Steps.{addressed, address_rows, grant_rows, box_rows, another, position_for, with_holding, lock_given, stands, given, granted, sensed}
+use Rattle.rules.specs.Steps.{addressed, address_rows, grant_rows, box_rows, another, position_for, with_holding, lock_given, stands, given, granted}
 use Rattle.rules.specs.Safety.{TrainOf}
 use Rattle.rules.specs.Invariant.{box_beyond, Needs, ahead, crossed, near_recorded, far_recorded, NeedsLock, crossed_point, lock_recorded, UsesLock, Fitting}
 use Rattle.rules.proofs.Accepted.{Accepted, BoxOf}

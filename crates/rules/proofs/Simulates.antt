@@ -18,7 +18,7 @@ use Rattle.rules.specs.declared.Outcome.{Outcome}
 use Rattle.rules.specs.Rows.{first}
 use Rattle.rules.specs.Track.{plan_at}
 use Rattle.rules.specs.Line.{around, box_at, train_at, put_train, put_box, request_kind, request_box, gives_back, holding, holding_box}
-use Rattle.rules.specs.Steps.{Step, apply, unless, sending, request_rows, box_rows, enter_rows, clear_rows, with_message, entered, cleared, enter, clear, concerned_box}
+use Rattle.rules.specs.Steps.{Step, apply, unless, request_rows, box_rows, enter_rows, clear_rows, with_message, entered, cleared, enter, clear, concerned_box}
 use Rattle.rules.specs.History.{◌answered◌, line_after, events}
 use Rattle.rules.specs.Atomic.{Kept, is_request, keep, is_granted, added, atomic_request, atomic_step, stopped}
 use Rattle.rules.specs.Safety.{TrainOf}

@@ -31,7 +31,7 @@ pub fn made_up_case(rng: &mut Prng, case: u64, table: &Table, steps: usize) {
             alter_table(rng, &mut line.table);
         }
         let bytes = meant.unwrap_or_else(|| Driver::new(rng).next_step(rng, &line));
-        checked_step(&format!("made-up-{case}-{change}"), &line, bytes);
+        checked_step(&format!("made_up_{case}_{change}"), &line, bytes);
     }
 }
 
@@ -40,7 +40,7 @@ fn checked_step(name: &str, line: &Line, bytes: Step) -> Line {
     let mut after = line.clone();
     let mut numbers = vec![step_checked(&mut after, bytes)];
     numbers.extend(line_numbers(&after));
-    theorem(name, &format!("checkedLine {} ({})", line_text(line), step_text(bytes)), &numbers);
+    theorem(name, &format!("checked_line {} ({})", line_text(line), step_text(bytes)), &numbers);
     after
 }
 
@@ -57,8 +57,8 @@ pub fn lock_case(rng: &mut Prng, case: u64, steps: usize) {
     };
     let line = Record::changed(&reached, &changes).line();
     let answer = step_on(rng, &line, &changes, Aim::LockAsked);
-    let after = checked_step(&format!("lock-{case}"), &line, answer);
-    checked_step(&format!("lock-heard-{case}"), &after, [4, answer[1], 0]);
+    let after = checked_step(&format!("lock_{case}"), &line, answer);
+    checked_step(&format!("lock_heard_{case}"), &after, [4, answer[1], 0]);
 }
 
 /// What is made up about one-way segments, in turn.
@@ -87,9 +87,9 @@ pub fn way_case(rng: &mut Prng, case: u64, steps: usize) {
         }
     };
     let bytes = step_on(rng, &line, &changes, aim);
-    let after = checked_step(&format!("way-{case}"), &line, bytes);
+    let after = checked_step(&format!("way_{case}"), &line, bytes);
     if let [3, train, _] = bytes {
-        checked_step(&format!("way-heard-{case}"), &after, [4, train, 0]);
+        checked_step(&format!("way_heard_{case}"), &after, [4, train, 0]);
     }
 }
 

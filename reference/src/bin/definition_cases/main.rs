@@ -69,10 +69,10 @@ fn run_case(rng: &mut Prng, case: u64, table: &Table, steps: usize) {
         stopped |= u8::from(whole.take(bytes) != 0);
     }
     let (bytes, list_of_steps) = (list(&file), steps_text(&taken));
-    theorem(&format!("code-{case}"), &format!("codeOf {bytes}"), &[0; 3]);
-    theorem(&format!("bytes-{case}"), &format!("rewritten {bytes}"), &file);
+    theorem(&format!("code_{case}"), &format!("code_of {bytes}"), &[0; 3]);
+    theorem(&format!("bytes_{case}"), &format!("rewritten {bytes}"), &file);
     theorem(
-        &format!("text-{case}"),
+        &format!("text_{case}"),
         &format!("printed {bytes} {}", list(&input)),
         &printout(&file, &input),
     );
@@ -80,14 +80,14 @@ fn run_case(rng: &mut Prng, case: u64, table: &Table, steps: usize) {
     for place in fold_places(table.trains.len(), &events) {
         places.extend([place.front as u8 + 1, (place.front - place.tail) as u8 + 1]);
     }
-    theorem(&format!("places-{case}"), &format!("placesOf {bytes} {list_of_steps}"), &places);
-    theorem(&format!("line-{case}"), &format!("lineOf {bytes} {list_of_steps}"), &line_numbers(&line));
+    theorem(&format!("places_{case}"), &format!("places_of {bytes} {list_of_steps}"), &places);
+    theorem(&format!("line_{case}"), &format!("line_of {bytes} {list_of_steps}"), &line_numbers(&line));
     let mut numbers = vec![stopped];
     numbers.extend(order.concat());
-    theorem(&format!("order-{case}"), &format!("orderOf {bytes} {list_of_steps}"), &numbers);
+    theorem(&format!("order_{case}"), &format!("order_of {bytes} {list_of_steps}"), &numbers);
     theorem(
-        &format!("atomic-{case}"),
-        &format!("atomicLineOf {bytes} {list_of_steps}"),
+        &format!("atomic_{case}"),
+        &format!("atomic_line_of {bytes} {list_of_steps}"),
         &whole_numbers(table, &whole),
     );
 }
@@ -103,8 +103,8 @@ fn file_case(rng: &mut Prng, case: u64, table: &Table) {
         let mut buffer = vec![7; length];
         let mut numbers = numbers_of(&write_table(table, &mut buffer)).to_vec();
         numbers.extend(&buffer);
-        let question = format!("writtenTo (decode {}) {}", list(&file), list(&vec![7; length]));
-        theorem(&format!("{name}-{case}"), &question, &numbers);
+        let question = format!("written_to (decode {}) {}", list(&file), list(&vec![7; length]));
+        theorem(&format!("{name}_{case}"), &question, &numbers);
     }
     let train = rng.below(table.trains.len() + 2);
     let numbers = match train.checked_sub(1).and_then(|i| table.trains.get(i)) {
@@ -118,7 +118,7 @@ fn file_case(rng: &mut Prng, case: u64, table: &Table) {
             numbers
         }
     };
-    theorem(&format!("route-{case}"), &format!("routeOf {} {train}", list(&file_bytes(table))), &numbers);
+    theorem(&format!("route_{case}"), &format!("route_of {} {train}", list(&file_bytes(table))), &numbers);
 }
 
 /// Alters one number of a table, or two of its routes.
@@ -162,14 +162,14 @@ fn damaged_case(rng: &mut Prng, case: u64, table: &Table) {
     for damage in 0..4 {
         let aim = if damage == 0 { rng.between(15, 20) } else { rng.below(usize::from(DAMAGES)) };
         let file = damaged_file(rng, table, aim as u8);
-        let (name, bytes) = (format!("{case}-{damage}"), list(&file));
+        let (name, bytes) = (format!("{case}_{damage}"), list(&file));
         let refusal = numbers_of(&read_table(&file));
-        theorem(&format!("damaged-{name}"), &format!("codeOf {bytes}"), &refusal);
+        theorem(&format!("damaged_{name}"), &format!("code_of {bytes}"), &refusal);
         if damage == 0 && refusal[0] != 0 {
             let [code, train, place] = refusal;
             let asked = rng.below(table.trains.len() + 2);
-            theorem(&format!("refused-text-{name}"), &format!("printed {bytes} []"), &printout(&file, &[]));
-            theorem(&format!("refused-route-{name}"), &format!("routeOf {bytes} {asked}"), &[code, train, place, 0]);
+            theorem(&format!("refused_text_{name}"), &format!("printed {bytes} []"), &printout(&file, &[]));
+            theorem(&format!("refused_route_{name}"), &format!("route_of {bytes} {asked}"), &[code, train, place, 0]);
         }
     }
 }
@@ -177,10 +177,10 @@ fn damaged_case(rng: &mut Prng, case: u64, table: &Table) {
 /// The stem sides of the table, and of one with its boxes or ends damaged; what refuses the latter.
 fn listing_case(rng: &mut Prng, case: u64, table: &Table) {
     let damaged = damaged_listing(rng, table);
-    sides(&format!("sides-{case}"), table);
-    sides(&format!("listing-sides-{case}"), &damaged);
+    sides(&format!("sides_{case}"), table);
+    sides(&format!("listing_sides_{case}"), &damaged);
     let file = file_bytes(&damaged);
-    theorem(&format!("listing-{case}"), &format!("codeOf {}", list(&file)), &numbers_of(&read_table(&file)));
+    theorem(&format!("listing_{case}"), &format!("code_of {}", list(&file)), &numbers_of(&read_table(&file)));
 }
 
 /// A theorem about the stem sides of all boxes.
@@ -191,7 +191,7 @@ fn sides(name: &str, table: &Table) {
         StemSide::B => 2,
     };
     let numbers: Vec<u8> = stem_sides(table).iter().map(number).collect();
-    theorem(name, &format!("sidesOf {}", list(&file_bytes(table))), &numbers);
+    theorem(name, &format!("sides_of {}", list(&file_bytes(table))), &numbers);
 }
 
 /// A list of atomic steps chosen freely, some of them stopped.
@@ -217,7 +217,7 @@ fn atomic_case(rng: &mut Prng, case: u64, table: &Table, steps: usize) {
         whole.take(bytes);
         taken.push(bytes);
     }
-    atomic_answers(&format!("free-{case}"), table, &taken);
+    atomic_answers(&format!("free_{case}"), table, &taken);
 }
 
 /// Two trains abreast on the track of table S: the second asks for the lock of their point while the first has it,
@@ -236,7 +236,7 @@ fn atomic_answers(name: &str, table: &Table, taken: &[Step]) {
     let mut numbers = vec![u8::from(codes.iter().any(|&code| code != 0))];
     numbers.extend(&codes);
     numbers.extend(whole_numbers(table, &whole));
-    let question = format!("atomicAnswersTo {} {}", list(&file_bytes(table)), steps_text(taken));
+    let question = format!("atomic_answers_to {} {}", list(&file_bytes(table)), steps_text(taken));
     theorem(name, &question, &numbers);
 }
 

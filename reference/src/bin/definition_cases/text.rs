@@ -8,41 +8,39 @@ use std::fmt::Display;
 
 pub const HEADER: &str = "\
 -- Generated cases: what the second implementation gives is what the definitions give.
-use mathlib.Core.Path.{_≡_, refl}
-use mathlib.Core.Bool.{Bool, true, false}
-use mathlib.Core.List.{List, [], _∷_}
-use Prim.Native.Nat.{ℕ}
-use Rattle·rules·specs.specs.declared.SwitchBox.{SwitchBox}
-use Rattle·rules·specs.specs.declared.Request.the-variants.{Reserve, Lock, GiveBack, Unlock}
-use Rattle·rules·specs.specs.declared.Message.{Message}
-use Rattle·rules·specs.specs.declared.Message.the-variants.{Idle, Sent, Answered, Lost}
-use Rattle·rules·specs.specs.declared.Train.{Train}
-use Rattle·rules·specs.specs.declared.Line.{Line}
-use Rattle·rules·specs.specs.Rows.{filled}
-use Rattle·rules·specs.specs.File.{decode}
-use Rattle·rules·specs.specs.Line.{noBox, noTrain}
-use Rattle·rules·specs.specs.Steps.{Step}
-use Rattle·rules·specs.specs.Cases.{codeOf, sidesOf, rewritten, writtenTo, routeOf, printed, orderOf, placesOf, lineOf, atomicLineOf, atomicAnswersTo, checkedLine, stepOf, found}
-use Rattle·rules·proofs.proofs.Computing.{definitions}
+use mathlib.Core.Path.{◌≡◌, refl}
+use Rattle.std.specs.Prelude.{ℕ, Bool, true, false, List, [], ◌∷◌}
+use Rattle.rules.specs.declared.SwitchBox.{SwitchBox}
+use Rattle.rules.specs.declared.Request.TheVariants.{Reserve, Lock, GiveBack, Unlock}
+use Rattle.rules.specs.declared.Message.{Message}
+use Rattle.rules.specs.declared.Message.TheVariants.{Idle, Sent, Answered, Lost}
+use Rattle.rules.specs.declared.Train.{Train}
+use Rattle.rules.specs.declared.Line.{Line}
+use Rattle.rules.specs.Rows.{filled}
+use Rattle.rules.specs.File.{decode}
+use Rattle.rules.specs.Line.{no_box, no_train}
+use Rattle.rules.specs.Steps.{Step}
+use Rattle.rules.specs.Cases.{code_of, sides_of, rewritten, written_to, route_of, printed, order_of, places_of, line_of, atomic_line_of, atomic_answers_to, checked_line, step_of, found}
+use Rattle.rules.proofs.Computing.{definitions}
 
-made-box : Bool → ℕ → ℕ → ℕ → ℕ → ℕ → SwitchBox
-made-box sensor position lock stem left right =
+made_box : Bool → ℕ → ℕ → ℕ → ℕ → ℕ → SwitchBox
+made_box sensor position lock stem left right =
     record { sensor = sensor; position = position; lock = lock; stem = stem; left = left; right = right }
 
-made-train : ℕ → ℕ → ℕ → ℕ → Bool → Bool → Bool → Message → Train
-made-train d r place covered near far lock g =
+made_train : ℕ → ℕ → ℕ → ℕ → Bool → Bool → Bool → Message → Train
+made_train d r place covered near far lock g =
     record { direction = d; length = r; place = place; covered = covered; near = near; far = far; lock = lock; message = g }
 
-made-line : List ℕ → List ℕ → List Train → List SwitchBox → Line
-made-line bytes routes trains boxes =
-    record { table = decode bytes; boxes = filled 96 noBox boxes; trains = filled 16 noTrain trains; routes = filled 1024 0 routes }
+made_line : List ℕ → List ℕ → List Train → List SwitchBox → Line
+made_line bytes routes trains boxes =
+    record { table = decode bytes; boxes = filled 96 no_box boxes; trains = filled 16 no_train trains; routes = filled 1024 0 routes }
 
 ";
 
 /// A theorem: what is found for the question is this list.
 pub fn theorem<N: Display>(name: &str, question: &str, expected: &[N]) {
     println!("{name} : found ({question}) ≡ {}", list(expected));
-    println!("unfolding definitions made-box made-train made-line");
+    println!("unfolding definitions made_box made_train made_line");
     println!("{name} = refl\n");
 }
 
@@ -55,7 +53,7 @@ pub fn list<N: Display>(numbers: &[N]) -> String {
 }
 
 pub fn step_text([kind, train, number]: Step) -> String {
-    format!("stepOf {kind} {train} {number}")
+    format!("step_of {kind} {train} {number}")
 }
 
 pub fn steps_text(steps: &[Step]) -> String {
@@ -76,7 +74,7 @@ pub fn line_text(line: &Line) -> String {
         routes.extend(route);
         let [near, far, lock] = recorded(line, i);
         trains.push_str(&format!(
-            "made-train {} {} {} {} {near} {far} {lock} {} ∷ ",
+            "made_train {} {} {} {} {near} {far} {lock} {} ∷ ",
             train.direction,
             train.route.len(),
             train.front + 1,
@@ -88,12 +86,12 @@ pub fn line_text(line: &Line) -> String {
     for state in &line.boxes {
         let [stem, left, right] = state.reserved;
         boxes.push_str(&format!(
-            "made-box {} {} {} {stem} {left} {right} ∷ ",
+            "made_box {} {} {} {stem} {left} {right} ∷ ",
             state.sensor, state.position, state.lock
         ));
     }
     format!(
-        "(made-line {} {} {trains}[]) {boxes}[]))",
+        "(made_line {} {} {trains}[]) {boxes}[]))",
         list(&file_bytes(&line.table)),
         list(&routes)
     )

@@ -3,21 +3,25 @@
 
 use std::env;
 
+const LIBRARIES: [&str; 2] = ["bench", "lineengine"];
+
 fn main() {
     println!("cargo:rustc-check-cfg=cfg(old)");
     println!("cargo:rerun-if-env-changed=OLD_LIBRARY");
     let package = env::var("CARGO_MANIFEST_DIR").expect("cargo says where the package is");
-    link(&format!("{package}/../target/staticlib"), "");
+    for library in LIBRARIES {
+        link(&format!("{package}/../crates/{library}/out"), library);
+    }
     if let Ok(folder) = env::var("OLD_LIBRARY") {
         println!("cargo:rustc-cfg=old");
-        link(&folder, "old_");
+        for library in LIBRARIES {
+            link(&folder, &format!("old_{library}"));
+        }
     }
 }
 
-fn link(folder: &str, prefix: &str) {
+fn link(folder: &str, library: &str) {
     println!("cargo:rustc-link-search=native={folder}");
-    for library in ["bench", "lineengine"] {
-        println!("cargo:rerun-if-changed={folder}/lib{prefix}{library}.a");
-        println!("cargo:rustc-link-lib=static={prefix}{library}");
-    }
+    println!("cargo:rerun-if-changed={folder}/lib{library}.a");
+    println!("cargo:rustc-link-lib=static={library}");
 }

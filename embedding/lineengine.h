@@ -4,7 +4,7 @@
  * Platform: x86-64 Linux, System V calls; the archive is compiled for user programs of this platform and for no other.
  * Stack: a call takes less than LINEENGINE_STACK bytes, whatever is passed. No heap, no variables of its own; from outside the
  * library needs memcpy and memset alone.
- * Link: `rt staticlib lineengine` writes target/staticlib/liblineengine.a. Header and archive are those of one commit.
+ * Link: `rt lib` in crates/lineengine writes crates/lineengine/out/liblineengine.a. Header and archive are those of one commit.
  *
  * What each function does is proved for every input; the contracts are in crates/lineengine/src/lib.rt. docs/EMBEDDING.md says
  * what that means for a unit.

@@ -1,4 +1,4 @@
-//! Where the proved library is: in the folder LINEENGINE_LIB_DIR, an absolute path, or where `rt staticlib lineengine` of this
+//! Where the proved library is: in the folder LINEENGINE_LIB_DIR, an absolute path, or where `rt lib` in crates/lineengine of this
 //! repository writes it. Another archive there is linked anew.
 
 use std::env;
@@ -10,7 +10,7 @@ fn main() {
     let archive = folder.join("liblineengine.a");
     if !folder.is_absolute() || !archive.is_file() {
         eprintln!("there is no archive {}", archive.display());
-        eprintln!("`rt staticlib lineengine` writes it; LINEENGINE_LIB_DIR names another folder, by its absolute path");
+        eprintln!("`rt lib` in crates/lineengine writes it; LINEENGINE_LIB_DIR names another folder, by its absolute path");
         std::process::exit(1);
     }
     println!("cargo:rerun-if-changed={}", archive.display());
@@ -19,5 +19,5 @@ fn main() {
 
 fn folder_of_the_repository() -> PathBuf {
     let package = env::var_os("CARGO_MANIFEST_DIR").expect("cargo says where the package is");
-    Path::new(&package).join("../../target/staticlib")
+    Path::new(&package).join("../../crates/lineengine/out")
 }

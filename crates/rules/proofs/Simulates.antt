@@ -140,11 +140,11 @@ module _ (kept : Kept) (l : Line) (h : Invariant (is_granted kept) l) (m : Remem
       still_kept c (with_message (train_at l s.train) z) e k λ p o. rw (open_same o now) waiting
 
   -- A step that adds nothing, and one that adds an atomic step that no row stops.
-  Adds-none
+  adds_none
       : {o : Outcome} → Remembers (keep kept (s answered o.code)) o.line → added kept (s answered o.code) ≡ []
       → believed (is_granted (keep kept (s answered o.code))) o.line ≡ believed g l → Simulates kept l s o
   unfolding line_after events stopped
-  Adds-none r e f = record { remembers = r; line = rw e (sym f); unstopped = rw e }
+  adds_none r e f = record { remembers = r; line = rw e (sym f); unstopped = rw e }
 
   adds_one
       : {o : Outcome} {a : Step} {z : Line} → Remembers (keep kept (s answered o.code)) o.line
@@ -188,19 +188,19 @@ module _ (kept : Kept) (l : Line) (h : Invariant (is_granted kept) l) (m : Remem
       → Open q (train_at l s.train).message → Open q z
       → Simulates kept l s (record { code = c; line = after_message l s.train z })
   retry c e nothing k waiting now =
-      Adds-none (remembers_train c _ k (message_kept c e k waiting now)) nothing
+      adds_none (remembers_train c _ k (message_kept c e k waiting now)) nothing
       (rw e (message_quiet (believing g) l s.train waiting now))
 
   pub simulates : (o : Outcome) → Does l s o → Simulates kept l s o
   unfolding Option-to_list entered cleared
   simulates o (refuses {c} n other) =
       let e = keep_refused kept s c n in
-      Adds-none (rw e m) (added_refused kept s c n) (rw e refl)
+      adds_none (rw e m) (added_refused kept s c n) (rw e refl)
   simulates o (sends {q} w) =
       let other : (kind : ℕ) → 3 ≤ kind → kind ≤ 6 → s.kind ≢ kind =
       λ kind low high e. request_kind_lem q kind low high (sym w.kind ∙ e) in
       let sent-kept = keep-sent kept s q w.kind in
-      Adds-none
+      adds_none
       (remembers_train 0 _ w.train λ z o _.
       sent-kept
       ∙ ap some (same_step s q w.kind w.box ∙ ap (request_step s.train) (open_same sent (rw (sending_message _ _ q) at o))))
@@ -230,7 +230,7 @@ module _ (kept : Kept) (l : Line) (h : Invariant (is_granted kept) l) (m : Remem
       let kind = w.kind in
       let e = keep_plain kept s c (omega arith) (omega arith) (omega arith) in
       let told = h.answers s.train w.train q c w.answer in
-      Adds-none
+      adds_none
       (remembers_train c _ w.train λ z o _. absurd (not_open (heard_message _ _ q c) o))
       (added_nothing kept s c (omega arith) (omega arith) (omega arith))
       (rw e

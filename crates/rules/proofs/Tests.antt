@@ -145,7 +145,7 @@ first_both (r ∷ a) b e f = both r.applies r.code e (λ z. first_both a b z f)
 
 pub ruleset tests = (is_true, is_false, or_left, or_right, or-false, or-last, and-true, and_left, and_right, and_last, not_of_true, not_of_false, not_same, cond-first, cond_second, first_hit, first_skip, lt-ltb, le-ltb, le-leb, lt-leb, eq-eqb, ne_eqb, answered)
 
--- Two tests joined by "or" or "and", as facts; each half of `or-true-iff` may be turned into another fact on the way.
+-- Two tests joined by "or" or "and", as facts; each half of `or-true_iff` may be turned into another fact on the way.
 pub or-false_iff : (a b : Bool) → ((a || b) ≡ false) ↔ ((a ≡ false) × (b ≡ false))
 or-false_iff a b = (λ e. (or-false-left a b e, or-false_right a b e), λ e. or-false a b e.0 e.1)
 

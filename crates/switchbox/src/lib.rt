@@ -63,6 +63,7 @@ fn another(i: u8, holder: u8) -> bool
 }
 
 // Codes 31 and 22 of a reservation, whatever the box's number.
+#[tactic(auto, unfolding(rules::specs::Rows::first, rules::specs::Steps::grant_rows))]
 fn reserve_code(v: Around, p: BoxPlan, x: SwitchBox) -> u8
     ensures { (b : ℕ) → result ≡ first (grant_rows v p x (NextAt b)) }
 {

@@ -198,6 +198,7 @@ fn without_holding(v: Around, r: Train, h: Holding) -> Train
 }
 
 // The train after it has sent a request: what it gives back is no longer recorded.
+#[tactic(auto, unfolding(rules::specs::Steps::sending))]
 pub fn sending(v: Around, r: Train, q: Request) -> Train
     ensures { result ≡ sending v r q }
 {

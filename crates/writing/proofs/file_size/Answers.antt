@@ -7,7 +7,6 @@ use Rattle.writing.proofs.Laws.{segments_most, trains-more, no_train_lem}
 use Rattle.rules.proofs.ReadBack.{encoded_length}
 use Rattle.rules.proofs.Rows.{length_mapped}
 use Rattle.writing.proofs.file_size.Goals as goal
-use Rattle.writing.proofs.file_size.Goals.{then-i-lt16, else-i-lt16}
 
 pub overflow_mul-size : goal.overflow_mul-size
 overflow_mul-size c = rw c.segment_size-width.ensures (omega (arith, segments_most c.args.t))
@@ -27,10 +26,7 @@ loop-i-preserved c =
     let t = c.args.t in
     let i = c.loop-i.i in
     let h : length t.trains ≡ 16 = search (rules, length_mapped) in
-    elim c.if-i-lt16.branch [
-      | then-i-lt16 w ↦ (omega arith, omega (arith, trains-more t i), omega arith)
-      | else-i-lt16 w ↦ (omega arith, omega (arith, trains-more t i, no_train_lem t i (omega arith)), omega arith)
-    ]
+    grind (arith, trains-more t i, no_train_lem t i)
 
 pub returns : goal.returns
 returns c =

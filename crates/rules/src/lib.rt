@@ -5,7 +5,7 @@
 
 // A segment: the box at its A end, the box at its B end, and the way in which trains pass it: 0 both ways, 1 from A to B only, 2 from
 // B to A only.
-#[derive(Clone, Copy)]
+#[derive(Clone, Copy, Default)]
 pub struct Segment {
     pub a: u8,
     pub b: u8,
@@ -14,7 +14,7 @@ pub struct Segment {
 
 // A switch box in the table: its kind (0 border, 1 link, 2 point), the segments at its three places, and its position
 // (01: lie) at the start: 0, or at a point 1 (stem to left) or 2 (stem to right).
-#[derive(Clone, Copy)]
+#[derive(Clone, Copy, Default)]
 pub struct BoxPlan {
     pub kind: u8,
     pub stem: u8,
@@ -24,15 +24,16 @@ pub struct BoxPlan {
 }
 
 // Which end of a box's stem segment is at the box: neither, its A end, or its B end. The first is what is read where there is no box.
-#[derive(Clone, Copy)]
+#[derive(Clone, Copy, Default)]
 pub enum StemSide {
+    #[default]
     Neither,
     AEnd,
     BEnd,
 }
 
 // A train in the table: its direction (0 from A ends to B ends, 1 back) and its route's length.
-#[derive(Clone, Copy)]
+#[derive(Clone, Copy, Default)]
 pub struct TrainPlan {
     pub direction: u8,
     pub length: u8,
@@ -53,7 +54,7 @@ pub struct Table {
 
 // A switch box on the line: whether its sensor is active, its position (01: lie), the train that holds its lock, and for
 // each of its places the train that the segment there is reserved for. Nobody is 0.
-#[derive(Clone, Copy)]
+#[derive(Clone, Copy, Default)]
 pub struct SwitchBox {
     pub sensor: bool,
     pub position: u8,
@@ -82,8 +83,9 @@ pub enum Request {
 
 // A train's one message: none, a request under way to its box, the box's answer under way back, with its code, or a request of which
 // nothing is under way: it was lost, or its answer was.
-#[derive(Clone, Copy)]
+#[derive(Clone, Copy, Default)]
 pub enum Message {
+    #[default]
     Idle,
     Sent(Request),
     Answered(Request, u8),
@@ -93,7 +95,7 @@ pub enum Message {
 // A train on the line: its direction and its route's length as they stand; the place of its front on that route, counted
 // from 1, and how many segments it covers; what it has recorded of its next segment: reserved at the near end, at the far
 // end, and the lock of the box ahead; and its message.
-#[derive(Clone, Copy)]
+#[derive(Clone, Copy, Default)]
 pub struct Train {
     pub direction: u8,
     pub length: u8,
@@ -118,7 +120,7 @@ pub struct Line {
 // front again where two are covered); whether the train runs against the way of next; the box ahead of the front and whether it is a
 // point; the boxes at the near and the far end of next; and the box between the tail and the segment after it, which is passed when the
 // tail is cleared.
-#[derive(Clone, Copy)]
+#[derive(Clone, Copy, Default)]
 pub struct Around {
     pub number: u8,
     pub front: u8,

@@ -1,0 +1,11 @@
+use Rattle.rules.proofs.Tests.{tests}
+use Rattle.rules.specs.Track.{near_box}
+use Rattle.columns.proofs.Columns.near.Goals as goal
+
+pub returns-then-d-eq0 : goal.returns-then-d-eq0
+unfolding near_box
+returns-then-d-eq0 c = search tests
+
+pub returns-else-d-eq0 : goal.returns-else-d-eq0
+unfolding near_box
+returns-else-d-eq0 c = search tests

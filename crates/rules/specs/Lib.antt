@@ -17,6 +17,8 @@ pub mod File
 pub mod Line
 -- Steps of kinds 1 to 10, codes 13 to 25 and 29 to 31.
 pub mod Steps
+-- The numbers of the errors that functions answer.
+pub mod Errors
 -- Code 27: the check of a line record.
 pub mod Record
 -- Demand 3: lists of steps, atomic steps, and the claim.

@@ -1,7 +1,11 @@
 // The records of a line: the table that the railway writes, and the switch boxes and trains that run by it.
-// What they mean and every rule over them is in specs/, which begins with specs/Lib.antt. There is no code here.
+// What they mean and every rule over them is in specs/, which begins with specs/Lib.antt. There is no code here but the numbers of errors.
 // Segments, boxes and trains are numbered from 1; record i of an array is the one numbered i + 1.
 #![tactic(auto)]
+
+mod errors;
+
+pub use errors::{Denial, FileError, RoutePlace, StepError};
 
 // A segment: the box at its A end, the box at its B end, and the way in which trains pass it: 0 both ways, 1 from A to B only, 2 from
 // B to A only.
@@ -164,4 +168,12 @@ pub struct Refusal {
 pub struct FileOutcome {
     pub refusal: Refusal,
     pub line: Line,
+}
+
+// What a step does to its train and to the box that it concerns, where it is not refused: a code, and the train and the box after it.
+#[derive(Clone, Copy)]
+pub struct Changed {
+    pub code: u8,
+    pub train: Train,
+    pub switchbox: SwitchBox,
 }

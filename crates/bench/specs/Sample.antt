@@ -1,6 +1,6 @@
 -- The code of an outcome and one field of the record at index i of each array of its line, added up.
 use Rattle.std.specs.Prelude.{ℕ, ◌+◌, get_or}
-use Rattle.rules.specs.declared.FileOutcome.{FileOutcome}
+use Rattle.rules.specs.Ends.{FileOutcome}
 use Rattle.rules.specs.Track.{no_segment, no_box_plan, no_train_plan}
 use Rattle.rules.specs.Line.{no_box, no_train}
 

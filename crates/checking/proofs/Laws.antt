@@ -16,7 +16,7 @@ use Rattle.rules.specs.declared.BoxPlan.{BoxPlan}
 use Rattle.rules.specs.declared.SwitchBox.{SwitchBox}
 use Rattle.rules.specs.declared.Train.{Train}
 use Rattle.rules.specs.declared.Around.{Around}
-use Rattle.rules.specs.declared.Refusal.{Refusal}
+use Rattle.rules.specs.Ends.{Refusal}
 use Rattle.rules.specs.Rows.{first, nth, outside}
 use Rattle.rules.specs.Track.{no_box_plan, Track, position_fits}
 use Rattle.rules.specs.Placing.{route_shape_fault, route_fault}

@@ -12,10 +12,10 @@ use Rattle.rules.specs.declared.SwitchBox.{SwitchBox}
 use Rattle.rules.specs.declared.Train.{Train}
 use Rattle.rules.specs.declared.Line.{Line}
 use Rattle.rules.specs.declared.Around.{Around}
-use Rattle.rules.specs.declared.Effect.{Effect}
-use Rattle.rules.specs.declared.Effect.TheVariants.{Refused, Changed}
+use Rattle.rules.specs.Ends.{Effect}
+use Rattle.rules.specs.Ends.Effect.{Refused, Changed}
 use Rattle.rules.specs.declared.Outcome.{Outcome}
-use Rattle.rules.specs.declared.Refusal.{Refusal}
+use Rattle.rules.specs.Ends.{Refusal}
 use Rattle.rules.specs.Rows.{first, outside, set_nth}
 use Rattle.rules.specs.Track.{track_in, way_in, point_in}
 use Rattle.rules.specs.Line.{no_train, around, put_train, put_box}

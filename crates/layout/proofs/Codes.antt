@@ -6,7 +6,7 @@ use mathlib.Core.List.{List, ◌++◌}
 use Rattle.rules.specs.declared.BoxPlan.{BoxPlan}
 use Rattle.rules.specs.declared.TrainPlan.{TrainPlan}
 use Rattle.rules.specs.declared.Table.{Table}
-use Rattle.rules.specs.declared.Refusal.{Refusal}
+use Rattle.rules.specs.Ends.{Refusal}
 use Rattle.rules.specs.Rows.{Row, first, outside}
 use Rattle.rules.specs.Track.{Track, track_of, way_of}
 use Rattle.rules.specs.Network.{ways_fault, head_rows, limits_fault, known_version, network_rows}

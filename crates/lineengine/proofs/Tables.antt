@@ -7,7 +7,7 @@ use borrow.Author.Tests.{ne_eqb}
 use lib.Dec.{ltb}
 use lib.ListN.{length}
 use Rattle.rules.specs.declared.Table.{Table}
-use Rattle.rules.specs.declared.Refusal.{Refusal}
+use Rattle.rules.specs.Ends.{Refusal}
 use Rattle.rules.specs.Rows.{◌if◌}
 use Rattle.rules.specs.Placing.{table_code, table_refusal}
 use Rattle.rules.specs.File.{file_code, file_refusal, decode, encode, write_refusal, written}

@@ -1,6 +1,6 @@
 -- A table file, read and written out again into a lent buffer, said by the bytes of the file alone.
 use Rattle.std.specs.Prelude.{ℕ, cond, List, [], ◌∷◌, ◌++◌, eqb, ltb, length, drop}
-use Rattle.rules.specs.declared.Refusal.{Refusal}
+use Rattle.rules.specs.Ends.{Refusal}
 use Rattle.rules.specs.Rows.{◌if◌}
 use Rattle.rules.specs.Placing.{refused_then}
 use Rattle.rules.specs.File.{file_refusal}

@@ -15,7 +15,7 @@ use Rattle.rules.proofs.Rows.{any_none, any_skip, any_found, NoneYet, none_start
 use Rattle.rules.proofs.RouteFault.{NoneFound, found_start, found_turn, found_here, found_done, first_same, found-tells}
 use Rattle.rules.proofs.Refusals.{code_of, refused_nowhere, refused_there}
 use Rattle.rules.specs.declared.TrainPlan.{TrainPlan}
-use Rattle.rules.specs.declared.Refusal.{Refusal}
+use Rattle.rules.specs.Ends.{Refusal}
 use Rattle.rules.specs.Rows.{outside, any_of, first}
 use Rattle.rules.specs.Track.{no_train_plan, route_at, Track, runs_against, near_box, far_box, follows}
 use Rattle.rules.specs.Placing.{without_place, route_shape_fault, place_rows, route_place_fault, route_fault, start_fault, start_against_at, shape_fault_at, route_fault_at, routes_fault, placing_rows, tells_place, refusal_by}

@@ -11,7 +11,7 @@ use lib.Dec.{leb}
 use lib.ListN.{length, get_or, set, take, length-append}
 use lib.Seq.{take-suc}
 use Rattle.rules.specs.declared.Line.{Line}
-use Rattle.rules.specs.declared.Refusal.{Refusal}
+use Rattle.rules.specs.Ends.{Refusal}
 use Rattle.rules.specs.Rows.{join_of}
 use Rattle.rules.specs.Track.{route_at}
 use Rattle.rules.specs.Line.{no_box, no_train, box_at, train_at, around_on, around}

@@ -11,7 +11,7 @@ use lib.Dec.{ltb}
 use lib.ListN.{length, get_or, take, drop, drop_of_length-le, get_or-append}
 use lib.Seq.{take_all, length-take-le, drop-cons}
 use Rattle.rules.specs.declared.Line.{Line}
-use Rattle.rules.specs.declared.FileOutcome.{FileOutcome}
+use Rattle.rules.specs.Ends.{FileOutcome}
 use Rattle.rules.specs.Rows.{first, join_of}
 use Rattle.rules.specs.File.{file_code, file_refusal, decode}
 use Rattle.rules.specs.Line.{read, start_line}

@@ -10,7 +10,7 @@ use lib.Dec.{eqb, leb, eqb-suc-zero}
 use native.Mathlib.Omega.{arith}
 use Rattle.rules.specs.declared.Table.{Table}
 use Rattle.rules.specs.declared.BoxPlan.{BoxPlan}
-use Rattle.rules.specs.declared.Refusal.{Refusal}
+use Rattle.rules.specs.Ends.{Refusal}
 use Rattle.rules.specs.Rows.{any_of, nth, outside}
 use Rattle.rules.specs.Track.{no_box_plan, plan_at, train_plan_at, route_at, Track, track_of, way_of, runs_against, near_box, far_box, follows, is_point, position_fits}
 use Rattle.rules.specs.Loop.{SegmentOf, Loop}

@@ -12,7 +12,7 @@ use Rattle.rules.specs.declared.Message.{Message}
 use Rattle.rules.specs.declared.Message.TheVariants.{Idle, Sent, Answered, Lost}
 use Rattle.rules.specs.declared.Line.{Line}
 use Rattle.rules.specs.declared.Around.{Around}
-use Rattle.rules.specs.declared.Effect.TheVariants.{Refused}
+use Rattle.rules.specs.Ends.Effect.{Refused}
 use Rattle.rules.specs.Line.{around_on, around, train_at, request_box, message_box}
 use Rattle.rules.specs.Steps.{box_answers, concerned_box}
 use Rattle.rules.specs.Record.{record_fault}

@@ -6,6 +6,8 @@ pub mod Rows
 pub mod Loop
 -- The stem side of a box is the one case that is so, where the ends of its stem are at two boxes (code 6).
 pub mod StemSides
+-- The codes of errors are not 0.
+pub mod Coded
 -- Laws of refusals.
 pub mod Refusals
 -- The search through a table's routes finds the first place at fault.

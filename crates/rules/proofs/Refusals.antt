@@ -7,7 +7,7 @@ use mathlib.Core.List.{List, [], ◌∷◌}
 use native.Mathlib.Decide.{ℕ_discrete}
 use borrow.Author.Tests.{eq-eqb, ne_eqb}
 use Rattle.rules.specs.declared.Table.{Table}
-use Rattle.rules.specs.declared.Refusal.{Refusal}
+use Rattle.rules.specs.Ends.{Refusal}
 use Rattle.rules.specs.Rows.{Row, ◌if◌, first}
 use Rattle.rules.specs.Placing.{without_place, table_code, tells_place, refusal_by, parts_refusal, table_refusal, refused_then}
 use Rattle.rules.specs.File.{file_code, file_refusal}

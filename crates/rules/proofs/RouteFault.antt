@@ -10,7 +10,7 @@ use native.Mathlib.Omega.{arith}
 use borrow.Author.Tests.{eq-eqb, ne_eqb}
 use Rattle.rules.specs.declared.TrainPlan.{TrainPlan}
 use Rattle.rules.specs.declared.Table.{Table}
-use Rattle.rules.specs.declared.Refusal.{Refusal}
+use Rattle.rules.specs.Ends.{Refusal}
 use Rattle.rules.specs.Rows.{Row, ◌if◌, first}
 use Rattle.rules.specs.Track.{train_plan_at, Track, track_of, way_of}
 use Rattle.rules.specs.Network.{head_rows, network_rows}

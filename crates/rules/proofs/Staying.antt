@@ -11,8 +11,8 @@ use Rattle.rules.specs.declared.Message.{Message}
 use Rattle.rules.specs.declared.Message.TheVariants.{Idle, Sent, Answered, Lost}
 use Rattle.rules.specs.declared.Train.{Train}
 use Rattle.rules.specs.declared.Around.{Around}
-use Rattle.rules.specs.declared.Effect.{Effect}
-use Rattle.rules.specs.declared.Effect.TheVariants.{Refused, Changed}
+use Rattle.rules.specs.Ends.{Effect}
+use Rattle.rules.specs.Ends.Effect.{Refused, Changed}
 use Rattle.rules.specs.Rows.{first}
 use Rattle.rules.specs.Steps.{request_rows, unless, send, reply, box_answers, train_hears, lose, send_again, alone}
 use Rattle.rules.proofs.Settled.{Alike, message_alike, sending_alike, heard_alike}

@@ -15,8 +15,8 @@ use Rattle.rules.specs.declared.Message.{Message}
 use Rattle.rules.specs.declared.Message.TheVariants.{Idle, Sent, Answered, Lost}
 use Rattle.rules.specs.declared.Train.{Train}
 use Rattle.rules.specs.declared.Line.{Line}
-use Rattle.rules.specs.declared.Effect.{Effect}
-use Rattle.rules.specs.declared.Effect.TheVariants.{Refused, Changed}
+use Rattle.rules.specs.Ends.{Effect}
+use Rattle.rules.specs.Ends.Effect.{Refused, Changed}
 use Rattle.rules.specs.declared.Outcome.{Outcome}
 use Rattle.rules.specs.Rows.{Row, first}
 use Rattle.rules.specs.Track.{plan_at}

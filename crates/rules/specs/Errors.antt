@@ -1,9 +1,9 @@
 -- The papers' numbers of errors, and what a function's result says in them.
 use Rattle.std.specs.Prelude.{ℕ, Result, Ok, Err}
-use Rattle.rules.specs.declared.Refusal.{Refusal}
-use Rattle.rules.specs.declared.FileOutcome.{FileOutcome}
-use Rattle.rules.specs.declared.Effect.{Effect}
-use Rattle.rules.specs.declared.Effect.TheVariants.{Refused, Changed}
+use Rattle.rules.specs.Ends.{Refusal}
+use Rattle.rules.specs.Ends.{FileOutcome}
+use Rattle.rules.specs.Ends.{Effect}
+use Rattle.rules.specs.Ends.Effect.{Refused, Changed}
 use Rattle.rules.specs.declared.Line.{Line}
 use Rattle.rules.specs.declared.Changed.{Changed as Change}
 use Rattle.rules.specs.declared.errors.FileError.{FileError}

@@ -4,7 +4,7 @@ use Rattle.rules.specs.declared.Segment.{Segment}
 use Rattle.rules.specs.declared.BoxPlan.{BoxPlan}
 use Rattle.rules.specs.declared.TrainPlan.{TrainPlan}
 use Rattle.rules.specs.declared.Table.{Table}
-use Rattle.rules.specs.declared.Refusal.{Refusal}
+use Rattle.rules.specs.Ends.{Refusal}
 use Rattle.rules.specs.Rows.{Row, ◌if◌, first, outside, list_of, join_of, filled}
 use Rattle.rules.specs.Track.{no_segment, no_box_plan, no_train_plan, segment_at, plan_at, train_plan_at, route_at}
 use Rattle.rules.specs.Network.{has_ways, head_rows}

@@ -1,4 +1,6 @@
 -- The paper as definitions, in reading order.
+-- Refusals, outcomes and effects.
+pub mod Ends
 -- Rows of codes and lists counted from 1.
 pub mod Rows
 -- The line: records by number, the track, the ways of segments, boxes, directions.

@@ -13,7 +13,7 @@ use Rattle.rules.specs.declared.Message.TheVariants.{Idle, Sent, Answered, Lost}
 use Rattle.rules.specs.declared.Train.{Train}
 use Rattle.rules.specs.declared.Line.{Line}
 use Rattle.rules.specs.declared.Around.{Around}
-use Rattle.rules.specs.declared.FileOutcome.{FileOutcome}
+use Rattle.rules.specs.Ends.{FileOutcome}
 use Rattle.rules.specs.Rows.{nth, set_nth, list_of, filled}
 use Rattle.rules.specs.Track.{no_segment, no_box_plan, no_train_plan, route_at, Track, track_of, way_of, runs_against, point_at, far_box, near_box}
 use Rattle.rules.specs.File.{file_code, file_refusal, decode}

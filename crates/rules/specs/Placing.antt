@@ -4,7 +4,7 @@ use Rattle.std.specs.Prelude.{ℕ, zero, suc, ◌-◌, Bool, cond, not, ◌&&◌
 use Rattle.rules.specs.declared.BoxPlan.{BoxPlan}
 use Rattle.rules.specs.declared.TrainPlan.{TrainPlan}
 use Rattle.rules.specs.declared.Table.{Table}
-use Rattle.rules.specs.declared.Refusal.{Refusal}
+use Rattle.rules.specs.Ends.{Refusal}
 use Rattle.rules.specs.Rows.{Row, ◌if◌, first, nth, any_of, outside}
 use Rattle.rules.specs.Track.{no_train_plan, route_at, Track, track_of, way_of, runs_against, follows}
 use Rattle.rules.specs.Network.{ways_fault, head_rows, network_rows}

@@ -3,7 +3,7 @@ use Rattle.std.specs.Prelude.{ℕ, zero, suc, ◌+◌, ◌-◌, ◌*◌, ◌/◌
 use Prim.Native.Char.{code}
 use Prim.Native.String.{String}
 use Rattle.rules.specs.declared.Line.{Line}
-use Rattle.rules.specs.declared.Refusal.{Refusal}
+use Rattle.rules.specs.Ends.{Refusal}
 use Rattle.rules.specs.Rows.{nth, join_of, ◌if◌, first}
 use Rattle.rules.specs.Placing.{tells_place}
 use Rattle.rules.specs.Line.{read, box_at, train_at, around}

@@ -2,7 +2,7 @@
 -- proofs/RouteFault.antt proves it of the search of specs/Placing.antt, for every table record.
 use Rattle.std.specs.Prelude.{ℕ, ◌≤◌, ◌<◌, ◌≡◌, ◌⊎◌, ◌↔◌, ◌≢◌}
 use Rattle.rules.specs.declared.Table.{Table}
-use Rattle.rules.specs.declared.Refusal.{Refusal}
+use Rattle.rules.specs.Ends.{Refusal}
 use Rattle.rules.specs.Track.{train_plan_at, track_of}
 use Rattle.rules.specs.Placing.{without_place, route_place_fault}
 

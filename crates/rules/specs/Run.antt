@@ -1,8 +1,8 @@
 -- A run: the bytes of a table file, the bytes of steps, and a lent buffer for the answers.
 use Rattle.std.specs.Prelude.{ℕ, ◌+◌, ◌/◌, ◌%◌, ◌≡◌, cond, List, [], ◌∷◌, ◌++◌, eqb, ltb, length, take, drop}
 use Rattle.rules.specs.declared.Line.{Line}
-use Rattle.rules.specs.declared.Refusal.{Refusal}
-use Rattle.rules.specs.declared.FileOutcome.{FileOutcome}
+use Rattle.rules.specs.Ends.{Refusal}
+use Rattle.rules.specs.Ends.{FileOutcome}
 use Rattle.rules.specs.Rows.{◌if◌}
 use Rattle.rules.specs.Placing.{refused_then}
 use Rattle.rules.specs.File.{file_refusal, decode}

@@ -139,34 +139,10 @@ pub struct Around {
     pub passed: u8,
 }
 
-// What a step does to its train and to the box that it concerns: refused with a code, nothing changed; or a code, and the train and
-// the box after it.
-#[derive(Clone, Copy)]
-pub enum Effect {
-    Refused(u8),
-    Changed(u8, Train, SwitchBox),
-}
-
 // What a call on a line ends in: a code, and the line after it.
 #[derive(Clone, Copy)]
 pub struct Outcome {
     pub code: u8,
-    pub line: Line,
-}
-
-// Why a call on a table or its file is refused: the code and, with 11 and 28, the train and the place on its route, counted from 1;
-// with any other code both are 0. All three are 0 where it is not refused.
-#[derive(Clone, Copy)]
-pub struct Refusal {
-    pub code: u8,
-    pub train: u8,
-    pub place: u8,
-}
-
-// What reading or running a table file ends in: why it is refused, and the line after it.
-#[derive(Clone, Copy)]
-pub struct FileOutcome {
-    pub refusal: Refusal,
     pub line: Line,
 }
 

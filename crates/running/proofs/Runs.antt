@@ -8,8 +8,8 @@ use borrow.Author.Tests.{lt-ltb, le-ltb, ne_eqb}
 use lib.Dec.{ltb}
 use lib.ListN.{length, drop}
 use Rattle.rules.specs.declared.Line.{Line}
-use Rattle.rules.specs.declared.Refusal.{Refusal}
-use Rattle.rules.specs.declared.FileOutcome.{FileOutcome}
+use Rattle.rules.specs.Ends.{Refusal}
+use Rattle.rules.specs.Ends.{FileOutcome}
 use Rattle.rules.specs.Rows.{◌if◌}
 use Rattle.rules.specs.Placing.{without_place}
 use Rattle.rules.specs.File.{file_code, file_refusal, decode}

@@ -9,7 +9,7 @@ use lib.Dec.{eqb}
 use lib.ListN.{length, get_or, take, drop, length-drop}
 use lib.Seq.{get_or-drop, drop-drop}
 use Rattle.rules.specs.declared.Table.{Table}
-use Rattle.rules.specs.declared.Refusal.{Refusal}
+use Rattle.rules.specs.Ends.{Refusal}
 use Rattle.rules.specs.Rows.{outside}
 use Rattle.rules.specs.Placing.{without_place, table_refusal}
 use Rattle.rules.specs.File.{byte_at, train_count, trains_from, train_start, train_size, file_code, file_refusal, decode, route_refusal, route_part, route_from}

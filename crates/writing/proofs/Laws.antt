@@ -12,7 +12,7 @@ use lib.ListN.{length, get_or, set, drop, length-append, get_or-eq_default}
 use lib.Seq.{sets-eq, length-sets}
 use Rattle.rules.specs.declared.Table.{Table}
 use Rattle.rules.specs.declared.TrainPlan.{TrainPlan}
-use Rattle.rules.specs.declared.Refusal.{Refusal}
+use Rattle.rules.specs.Ends.{Refusal}
 use Rattle.rules.specs.Rows.{◌if◌, list_of, join_of}
 use Rattle.rules.specs.Track.{no_segment, no_box_plan, no_train_plan, segment_at, plan_at, train_plan_at, route_at}
 use Rattle.rules.specs.Network.{has_ways}

@@ -1,7 +1,7 @@
 -- What is sampled is what was read.
 use Prim.Native.Nat.{◌%◌}
 use mathlib.Core.Path.{◌∙◌, ap}
-use Rattle.rules.specs.declared.FileOutcome.{FileOutcome}
+use Rattle.rules.specs.Ends.{FileOutcome}
 use Rattle.bench.specs.Sample.{sample}
 use Rattle.bench.proofs.bench_read.Goals as goal
 

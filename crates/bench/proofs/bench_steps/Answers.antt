@@ -1,7 +1,7 @@
 -- By the three ends of a run.
 use mathlib.Core.Path.{refl, ap}
 use native.Mathlib.Omega.{arith}
-use Rattle.rules.specs.declared.FileOutcome.{FileOutcome}
+use Rattle.rules.specs.Ends.{FileOutcome}
 use Rattle.rules.specs.Placing.{without_place}
 use Rattle.rules.specs.Line.{empty_line}
 use Rattle.rules.specs.Run.{step_count}

@@ -12,8 +12,8 @@ use Rattle.rules.specs.declared.Train.{Train}
 use Rattle.rules.specs.declared.SwitchBox.{SwitchBox}
 use Rattle.rules.specs.declared.Request.{Request}
 use Rattle.rules.specs.declared.Request.TheVariants.{GiveBack, Unlock}
-use Rattle.rules.specs.declared.Effect.{Effect}
-use Rattle.rules.specs.declared.Effect.TheVariants.{Refused}
+use Rattle.rules.specs.Ends.{Effect}
+use Rattle.rules.specs.Ends.Effect.{Refused}
 use Rattle.rules.specs.Line.{gives_back}
 use Rattle.rules.specs.Steps.{send, lose, send_again, alone}
 use Rattle.deciding.proofs.alone.Goals as goal

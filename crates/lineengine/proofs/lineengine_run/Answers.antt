@@ -1,6 +1,6 @@
 -- As the engine promises.
 use mathlib.Core.Path.{sym, ap}
-use Rattle.rules.specs.declared.FileOutcome.{FileOutcome}
+use Rattle.rules.specs.Ends.{FileOutcome}
 use Rattle.rules.proofs.Refusals.{code_of, train_of, place_of}
 use Rattle.lineengine.proofs.lineengine_run.Goals as goal
 

@@ -1,6 +1,6 @@
 // Kinds 9 and 10: what is under way is lost, and a request of which nothing is under way is sent again.
 ghost use Rattle.std.specs.Prelude.{◌≡◌, cond, eqb};
-ghost use Rattle.rules.specs.declared.Effect.TheVariants.{Refused, Changed};
+ghost use Rattle.rules.specs.Ends.Effect.{Refused, Changed};
 ghost use Rattle.rules.specs.declared.Message.TheVariants.{Lost};
 ghost use Rattle.rules.specs.Steps.{with_message, lose, send_again};
 

@@ -1,5 +1,5 @@
 -- Ranks of boxes by their numbers, 0 .. 255: what holds of them while they are raised along the segments.
-use Rattle.std.specs.Prelude.{◌≡◌, ℕ, ◌+◌, ◌<◌, ◌≤◌, true, false, List, [], ◌∷◌, length, slice_index}
+use Rattle.std.specs.Prelude.{◌≡◌, ℕ, ◌+◌, ◌<◌, ◌≤◌, true, false, List, length, slice_index, sum}
 use mathlib.Core.List.{Memᴰ}
 use Rattle.rules.specs.Track.{Track}
 use Rattle.rules.specs.Loop.{chain_ends, has_loop}
@@ -23,16 +23,11 @@ pub record Reached (n : ℕ) (track : Track) (ranks : List ℕ) : Type 0 where
   pub bounded : (x : ℕ) → slice_index ranks x ≤ n + 96
   pub chained : (x r : ℕ) → slice_index ranks x ≡ 97 + r → ChainTo n track r x
 
--- The sum of all ranks.
-unfoldable pub total : List ℕ → ℕ
-total [] = 0
-total (x ∷ l) = x + total l
-
 -- What a pass tells by its end: there is no loop, there is one, or the sum of all ranks has grown.
 unfoldable pub told : ℕ → Track → List ℕ → List ℕ → Pass → Type 0
 told n track before after Rising = has_loop n track ≡ false
 told n track before after TooHigh = has_loop n track ≡ true
-told n track before after Raised = total before < total after
+told n track before after Raised = sum before < sum after
 
 -- The end of a pass, with the ranks before and after it.
 pub record Ended (n : ℕ) (track : Track) (before after : List ℕ) (pass : Pass) : Type 0 where

@@ -1,8 +1,8 @@
-use Rattle.loops.proofs.Rising.{low-reached, rising_none, high_some, raised_less}
+use Rattle.loops.proofs.Rising.{low_reached, rising_none, high_some, raised_less}
 use Rattle.loops.proofs.has_loop.Goals as goal
 
 pub loop-init : goal.loop-init
-loop-init c = search low-reached
+loop-init c = search low_reached
 
 pub returns-in-Rising : goal.returns-in-Rising
 returns-in-Rising c = search rising_none

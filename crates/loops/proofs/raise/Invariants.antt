@@ -1,11 +1,7 @@
 -- `raise`: the invariant is the record `Passing`, and each way through a turn or out of the loop is a law of it.
-use Rattle.std.proofs.Common.{◌-◌}
 use Rattle.rules.specs.Track.{track_in}
 use Rattle.loops.proofs.Rising.{Passing}
 use Rattle.loops.proofs.raise.Given as goal
 
 abbrev pub invariant-loop-s : goal.invariant-loop-s
-invariant-loop-s l = Passing l.n (track_in l.a l.b) l.initial.ranks l.ranks l.raised l.s
-
-abbrev pub decreases-loop-s : goal.decreases-loop-s
-decreases-loop-s l = l.n - l.s
+invariant-loop-s l = Passing l.n (track_in l.a l.b) l.initial.ranks l.ranks l.pass l.s

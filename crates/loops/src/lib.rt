@@ -9,6 +9,7 @@ ghost use Rattle.rules.specs.Track.{track_in};
 ghost use Rattle.rules.specs.Loop.{has_loop};
 ghost use Rattle.loops.specs.Ranks.{Low, Reached, Ended};
 
+use columns::Columns;
 use rules::BoxPlan;
 
 // Boxes by number, in an order that is still read while it grows.
@@ -30,10 +31,10 @@ impl Order {
 }
 
 // How many segments have their B end at each box.
-fn entries(n: u8, b: &[u8; 256]) -> [u8; 256] {
+fn entries(n: u8, columns: &Columns) -> [u8; 256] {
     let mut count = [0u8; 256];
     for s in 1..=n {
-        let x = b[s as usize] as usize;
+        let x = columns.b[s as usize] as usize;
         count[x] = count[x].wrapping_add(1);
     }
     count
@@ -54,8 +55,8 @@ fn sources(m: u8, count: &[u8; 256]) -> Order {
 }
 
 // The box that segment s leads to from box `number`.
-fn leads_to(number: u8, s: u8, a: &[u8; 256], b: &[u8; 256]) -> Option<u8> {
-    (s != 0 && a[s as usize] == number).then_some(b[s as usize])
+fn leads_to(number: u8, s: u8, columns: &Columns) -> Option<u8> {
+    (s != 0 && columns.a[s as usize] == number).then_some(columns.b[s as usize])
 }
 
 // Box b has one entry less, and with none left it is next in the order.
@@ -69,10 +70,10 @@ fn release(b: u8, count: &mut [u8; 256], order: &mut Order) {
 
 // A rank for each box: its place in the order, and 96 for those that the order does not come to.
 #[tactic(auto, using(crate::proofs::Rising::low_start, crate::proofs::Rising::low_set))]
-fn guess(n: u8, m: u8, plans: &[BoxPlan; 96], a: &[u8; 256], b: &[u8; 256]) -> [u16; 256]
+fn guess(n: u8, m: u8, plans: &[BoxPlan; 96], columns: &Columns) -> [u16; 256]
     ensures { Low result }
 {
-    let mut count = entries(n, b);
+    let mut count = entries(n, columns);
     let mut order = sources(m, &count);
     let mut ranks = [96u16; 256];
     for rank in 0..96u16 {
@@ -82,7 +83,7 @@ fn guess(n: u8, m: u8, plans: &[BoxPlan; 96], a: &[u8; 256], b: &[u8; 256]) -> [
         ranks[number as usize] = rank;
         if let Some(plan) = plans.get((number as usize).wrapping_sub(1)) {
             for s in [plan.stem, plan.left, plan.right] {
-                if let Some(next) = leads_to(number, s, a, b) {
+                if let Some(next) = leads_to(number, s, columns) {
                     release(next, &mut count, &mut order);
                 }
             }
@@ -101,15 +102,15 @@ enum Pass {
 }
 
 // One pass: along each segment in turn, the rank at its B end is raised above the one at its A end, where it is not so already.
-fn raise(n: u8, a: &[u8; 256], b: &[u8; 256], ranks: &mut [u16; 256]) -> Pass
-    requires { Reached n (track_in a.now b.now) ranks.old }
-    ensures { Ended n (track_in a.now b.now) ranks.old ranks.new result }
+fn raise(n: u8, columns: &Columns, ranks: &mut [u16; 256]) -> Pass
+    requires { Reached n (track_in columns.now.a columns.now.b) ranks.old }
+    ensures { Ended n (track_in columns.now.a columns.now.b) ranks.old ranks.new result }
 {
     let highest = n as u16 + 96;
     let mut pass = Pass::Rising;
     for s in 1..=n {
-        let x = a[s as usize] as usize;
-        let y = b[s as usize] as usize;
+        let x = columns.a[s as usize] as usize;
+        let y = columns.b[s as usize] as usize;
         let rank = ranks[x];
         if ranks[y] <= rank {
             if rank >= highest {
@@ -123,12 +124,12 @@ fn raise(n: u8, a: &[u8; 256], b: &[u8; 256], ranks: &mut [u16; 256]) -> Pass
 }
 
 // Code 9: some list of segments closes a loop.
-pub fn has_loop(n: u8, m: u8, plans: [BoxPlan; 96], a: &[u8; 256], b: &[u8; 256]) -> bool
-    ensures { result ≡ has_loop n (track_in a.now b.now) }
+pub fn has_loop(n: u8, m: u8, plans: &[BoxPlan; 96], columns: &Columns) -> bool
+    ensures { result ≡ has_loop n (track_in columns.now.a columns.now.b) }
 {
-    let mut ranks = guess(n, m, &plans, a, b);
+    let mut ranks = guess(n, m, plans, columns);
     loop {
-        match raise(n, a, b, &mut ranks) {
+        match raise(n, columns, &mut ranks) {
             Pass::Rising => return false,
             Pass::TooHigh => return true,
             Pass::Raised => {}

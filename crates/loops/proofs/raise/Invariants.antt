@@ -4,4 +4,4 @@ use Rattle.loops.proofs.Rising.{Passing}
 use Rattle.loops.proofs.raise.Given as goal
 
 abbrev pub invariant-loop-s : goal.invariant-loop-s
-invariant-loop-s l = Passing l.n (track_in l.a l.b) l.initial.ranks l.ranks l.pass l.s
+invariant-loop-s l = Passing l.n (track_in l.columns.a l.columns.b) l.initial.ranks l.ranks l.pass l.s

@@ -15,232 +15,206 @@ use rules::{Around, BoxPlan, Holding, Request, SwitchBox};
 // The box's code for a yes.
 const YES: u8 = 0;
 
-// The train that segment s is reserved for at a box, 0 where there is none.
-fn holder_of(p: BoxPlan, x: SwitchBox, s: u8) -> u8
-    ensures { result ≡ holder_of p x s }
-{
-    if s == p.stem {
-        return x.stem;
-    }
-    if s == p.left {
-        return x.left;
-    }
-    if s == p.right {
-        return x.right;
-    }
-    0
+// A train at a box: what stands around the train, and the box's plan and record.
+#[derive(Clone, Copy)]
+struct AtBox {
+    around: Around,
+    plan: BoxPlan,
+    state: SwitchBox,
 }
 
-// A holder at a place with segment `listed`, after segment s is given to a train.
-fn holder(listed: u8, before: u8, s: u8, train: u8) -> u8
-    ensures { result ≡ cond (eqb s listed) train before }
-{
-    if s == listed { train } else { before }
+impl AtBox {
+    // The train that segment s is reserved for here, 0 where there is none.
+    #[tactic(auto, unfolding(rules::specs::Line::holder_of))]
+    fn holder_of(self, s: u8) -> u8
+        ensures { result ≡ holder_of self.plan self.state s }
+    {
+        if s == self.plan.stem {
+            self.state.stem
+        } else if s == self.plan.left {
+            self.state.left
+        } else if s == self.plan.right {
+            self.state.right
+        } else {
+            0
+        }
+    }
+
+    // Codes 31 and 22 of a reservation, whatever the box's number.
+    #[tactic(auto, unfolding(rules::specs::Rows::first, rules::specs::Steps::grant_rows))]
+    fn reserve_code(self) -> u8
+        ensures { (b : ℕ) → result ≡ first (grant_rows self.around self.plan self.state (NextAt b)) }
+    {
+        let taken = another(self.around.number, self.holder_of(self.around.next));
+        if self.around.against {
+            return 31;
+        }
+        if taken {
+            return 22;
+        }
+        YES
+    }
+
+    // Front and next are reserved for the train here.
+    fn holds_both(self) -> bool
+        ensures { result ≡ (eqb (holder_of self.plan self.state self.around.front) self.around.number
+            && eqb (holder_of self.plan self.state self.around.next) self.around.number) }
+    {
+        self.holder_of(self.around.front) == self.around.number && self.holder_of(self.around.next) == self.around.number
+    }
+
+    // Codes 24, 23 and 25 of a lock, whatever the box's number.
+    #[tactic(auto, unfolding(rules::specs::Rows::first, rules::specs::Steps::grant_rows))]
+    fn lock_code(self) -> u8
+        ensures { (b : ℕ) → result ≡ first (grant_rows self.around self.plan self.state (LockAt b)) }
+    {
+        let held = another(self.around.number, self.state.lock);
+        if held {
+            return 24;
+        }
+        if self.state.sensor {
+            return 23;
+        }
+        if !self.holds_both() {
+            return 25;
+        }
+        YES
+    }
+
+    // The box's code for what is asked for.
+    fn grant_code(self, h: Holding) -> u8
+        ensures { result ≡ first (grant_rows self.around self.plan self.state h) }
+    {
+        match h {
+            Holding::NextAt(_) => self.reserve_code(),
+            Holding::LockAt(_) => self.lock_code(),
+        }
+    }
+
+    // The box has it for the train.
+    #[tactic(auto, unfolding(rules::specs::Steps::stands))]
+    fn stands(self, h: Holding) -> bool
+        ensures { result ≡ stands self.around self.plan self.state h }
+    {
+        match h {
+            Holding::NextAt(_) => self.holder_of(self.around.next) == self.around.number,
+            Holding::LockAt(_) => self.state.lock == self.around.number,
+        }
+    }
+
+    // The point joins front to next, and its lock is the train's.
+    fn locked(self) -> SwitchBox
+        ensures { result ≡ lock_given self.around self.plan self.state }
+    {
+        SwitchBox {
+            position: position_for(self.plan, self.around.front, self.around.next),
+            lock: self.around.number,
+            ..self.state
+        }
+    }
+
+    // The box once it is the train's.
+    #[tactic(auto, unfolding(rules::specs::Steps::given))]
+    fn given(self, h: Holding) -> SwitchBox
+        ensures { result ≡ given self.around self.plan self.state h }
+    {
+        match h {
+            Holding::NextAt(_) => set_holder(self.plan, self.state, self.around.next, self.around.number),
+            Holding::LockAt(_) => self.locked(),
+        }
+    }
+
+    // The box once it is free.
+    #[tactic(auto, unfolding(rules::specs::Steps::freed))]
+    fn freed(self, h: Holding) -> SwitchBox
+        ensures { result ≡ freed self.around self.plan self.state h }
+    {
+        match h {
+            Holding::NextAt(_) => set_holder(self.plan, self.state, self.around.next, 0),
+            Holding::LockAt(_) => SwitchBox { lock: 0, ..self.state },
+        }
+    }
+
+    // The box once it is free, if it was the train's.
+    fn taken_back(self, h: Holding) -> SwitchBox
+        ensures { result ≡ cond (stands self.around self.plan self.state h) (freed self.around self.plan self.state h) self.state }
+    {
+        if self.stands(h) { self.freed(h) } else { self.state }
+    }
+
+    // The box once it is the train's: as it was, if it was so already.
+    fn made_own(self, h: Holding) -> SwitchBox
+        ensures { result ≡ cond (stands self.around self.plan self.state h) self.state (given self.around self.plan self.state h) }
+    {
+        if self.stands(h) { self.state } else { self.given(h) }
+    }
 }
 
 // The box with segment s given to a train.
+#[tactic(auto, unfolding(rules::specs::Line::set_holder))]
 pub fn set_holder(p: BoxPlan, x: SwitchBox, s: u8, train: u8) -> SwitchBox
     ensures { result ≡ set_holder p x s train }
 {
     SwitchBox {
-        sensor: x.sensor,
-        position: x.position,
-        lock: x.lock,
-        stem: holder(p.stem, x.stem, s, train),
-        left: holder(p.left, x.left, s, train),
-        right: holder(p.right, x.right, s, train),
+        stem: if s == p.stem { train } else { x.stem },
+        left: if s == p.left { train } else { x.left },
+        right: if s == p.right { train } else { x.right },
+        ..x
     }
 }
 
 // Somebody else than train i.
+#[tactic(auto, unfolding(rules::specs::Steps::another))]
 fn another(i: u8, holder: u8) -> bool
     ensures { result ≡ another i holder }
 {
-    if holder == 0 {
-        return false;
-    }
-    holder != i
-}
-
-// Codes 31 and 22 of a reservation, whatever the box's number.
-#[tactic(auto, unfolding(rules::specs::Rows::first, rules::specs::Steps::grant_rows))]
-fn reserve_code(v: Around, p: BoxPlan, x: SwitchBox) -> u8
-    ensures { (b : ℕ) → result ≡ first (grant_rows v p x (NextAt b)) }
-{
-    let taken = another(v.number, holder_of(p, x, v.next));
-    if v.against {
-        return 31;
-    }
-    if taken {
-        return 22;
-    }
-    YES
-}
-
-// Front and next are reserved for the train at the box.
-fn holds_both(v: Around, p: BoxPlan, x: SwitchBox) -> bool
-    ensures { result ≡ (eqb (holder_of p x v.front) v.number && eqb (holder_of p x v.next) v.number) }
-{
-    if holder_of(p, x, v.front) != v.number {
-        return false;
-    }
-    holder_of(p, x, v.next) == v.number
-}
-
-// Codes 24, 23 and 25 of a lock, whatever the box's number.
-fn lock_code(v: Around, p: BoxPlan, x: SwitchBox) -> u8
-    ensures { (b : ℕ) → result ≡ first (grant_rows v p x (LockAt b)) }
-{
-    let held = another(v.number, x.lock);
-    if held {
-        return 24;
-    }
-    if x.sensor {
-        return 23;
-    }
-    if !holds_both(v, p, x) {
-        return 25;
-    }
-    YES
-}
-
-// The box's code for what is asked for.
-fn grant_code(v: Around, p: BoxPlan, x: SwitchBox, h: Holding) -> u8
-    ensures { result ≡ first (grant_rows v p x h) }
-{
-    match h {
-        Holding::NextAt(_) => reserve_code(v, p, x),
-        Holding::LockAt(_) => lock_code(v, p, x),
-    }
-}
-
-// The box has it for the train.
-fn stands(v: Around, p: BoxPlan, x: SwitchBox, h: Holding) -> bool
-    ensures { result ≡ stands v p x h }
-{
-    match h {
-        Holding::NextAt(_) => holder_of(p, x, v.next) == v.number,
-        Holding::LockAt(_) => x.lock == v.number,
-    }
-}
-
-// The box's code for a request: what gives back is always answered yes, and so is what the box has for the train already.
-pub fn box_code(v: Around, p: BoxPlan, x: SwitchBox, q: Request) -> u8
-    ensures { result ≡ first (box_rows v p x q) }
-{
-    if gives_back(q) {
-        return YES;
-    }
-    let about = holding_of(q);
-    if stands(v, p, x, about) {
-        return YES;
-    }
-    grant_code(v, p, x, about)
-}
-
-// Segments s and z are y and w, in this order.
-fn pair_is(s: u8, z: u8, y: u8, w: u8) -> bool
-    ensures { result ≡ (eqb s y && eqb z w) }
-{
-    if s != y {
-        return false;
-    }
-    z == w
+    holder != 0 && holder != i
 }
 
 // Position 1 of a point joins segments s and z: one is the stem, the other the left branch.
+#[tactic(auto, unfolding(rules::specs::Track::joins, rules::specs::Track::same_pair))]
 fn joins_left(p: BoxPlan, s: u8, z: u8) -> bool
     ensures { result ≡ joins p 1 s z }
 {
-    if pair_is(s, z, p.stem, p.left) {
-        return true;
-    }
-    pair_is(s, z, p.left, p.stem)
+    s == p.stem && z == p.left || s == p.left && z == p.stem
 }
 
 // The position of a point that joins two segments, one of which is its stem.
+#[tactic(auto, unfolding(rules::specs::Steps::position_for))]
 fn position_for(p: BoxPlan, s: u8, z: u8) -> u8
     ensures { result ≡ position_for p s z }
 {
     if joins_left(p, s, z) { 1 } else { 2 }
 }
 
-// The point joins front to next, and its lock is the train's.
-fn locked(v: Around, p: BoxPlan, x: SwitchBox) -> SwitchBox
-    ensures { result ≡ lock_given v p x }
+// The box's code for a request: what gives back is always answered yes, and so is what the box has for the train already.
+#[tactic(auto, unfolding(rules::specs::Rows::first, rules::specs::Steps::box_rows))]
+pub fn box_code(v: Around, p: BoxPlan, x: SwitchBox, q: Request) -> u8
+    ensures { result ≡ first (box_rows v p x q) }
 {
-    let mut y = x;
-    y.position = position_for(p, v.front, v.next);
-    y.lock = v.number;
-    y
-}
-
-// The lock of the point is free.
-fn unlocked(x: SwitchBox) -> SwitchBox
-    ensures { result ≡ lock_freed x }
-{
-    let mut y = x;
-    y.lock = 0;
-    y
-}
-
-// The box once it is the train's.
-fn given(v: Around, p: BoxPlan, x: SwitchBox, h: Holding) -> SwitchBox
-    ensures { result ≡ given v p x h }
-{
-    match h {
-        Holding::NextAt(_) => set_holder(p, x, v.next, v.number),
-        Holding::LockAt(_) => locked(v, p, x),
+    let here = AtBox { around: v, plan: p, state: x };
+    let about = holding_of(q);
+    if gives_back(q) || here.stands(about) {
+        return YES;
     }
-}
-
-// The box once it is free.
-fn freed(v: Around, p: BoxPlan, x: SwitchBox, h: Holding) -> SwitchBox
-    ensures { result ≡ freed v p x h }
-{
-    match h {
-        Holding::NextAt(_) => set_holder(p, x, v.next, 0),
-        Holding::LockAt(_) => unlocked(x),
-    }
-}
-
-// The box once it is free, if it was the train's.
-fn taken_back(v: Around, p: BoxPlan, x: SwitchBox, h: Holding) -> SwitchBox
-    ensures { result ≡ cond (stands v p x h) (freed v p x h) x }
-{
-    if stands(v, p, x, h) {
-        return freed(v, p, x, h);
-    }
-    x
-}
-
-// The box once it is the train's: as it was, if it was so already.
-fn made_own(v: Around, p: BoxPlan, x: SwitchBox, h: Holding) -> SwitchBox
-    ensures { result ≡ cond (stands v p x h) x (given v p x h) }
-{
-    if stands(v, p, x, h) {
-        return x;
-    }
-    given(v, p, x, h)
+    here.grant_code(about)
 }
 
 // The box after its yes.
+#[tactic(auto, unfolding(rules::specs::Steps::granted))]
 pub fn granted(v: Around, p: BoxPlan, x: SwitchBox, q: Request) -> SwitchBox
     ensures { result ≡ granted v p x q }
 {
-    let h = holding_of(q);
-    if gives_back(q) {
-        return taken_back(v, p, x, h);
-    }
-    made_own(v, p, x, h)
+    let here = AtBox { around: v, plan: p, state: x };
+    let about = holding_of(q);
+    if gives_back(q) { here.taken_back(about) } else { here.made_own(about) }
 }
 
 // The box that a train has passed: sensor passive, lock free, the reservations of both segments free.
+#[tactic(auto, unfolding(rules::specs::Steps::released))]
 pub fn released(p: BoxPlan, x: SwitchBox, s: u8, z: u8) -> SwitchBox
     ensures { result ≡ released p x s z }
 {
-    let mut free = x;
-    free.sensor = false;
-    free.lock = 0;
+    let free = SwitchBox { sensor: false, lock: 0, ..x };
     set_holder(p, set_holder(p, free, s, 0), z, 0)
 }

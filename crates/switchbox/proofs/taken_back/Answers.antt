@@ -1,8 +1,0 @@
--- By whether the box has it for the train.
-use Rattle.switchbox.proofs.taken_back.Goals as goal
-
-pub returns-then-stands : goal.returns-then-stands
-returns-then-stands c = rw (← c.stands.ensures, c.if-stands.true) c.freed.ensures
-
-pub returns : goal.returns
-returns c = rw (← c.stands.ensures, c.if-stands.false)

@@ -1,8 +1,5 @@
 -- The points of a table, looked up in the column of its boxes' kinds.
-use Prim.Native.Nat.{ℕ}
-use mathlib.Core.Path.{◌≡◌}
-use native.Mathlib.Omega.{arith}
-use lib.ListN.{length, get_or}
+use Rattle.std.proofs.Common.{◌≡◌, ℕ, length, get_or, arith}
 use Rattle.rules.specs.declared.Table.{Table}
 use Rattle.rules.specs.Track.{plan_at, point_kind, is_point, point_at, point_in}
 use Rattle.network.specs.Column.{column}

@@ -13,57 +13,43 @@ use messages::{gives_back, holding_of};
 use rules::{Around, Holding, Message, Request, Train};
 
 // The box of a message, 0 where there is none.
+#[tactic(auto, unfolding(rules::specs::Line::message_box))]
 pub fn message_box(message: Message) -> u8
     ensures { result ≡ message_box message }
 {
     match message {
         Message::Idle => 0,
-        Message::Sent(q) => request_box(q),
-        Message::Answered(q, _) => request_box(q),
-        Message::Lost(q) => request_box(q),
+        Message::Sent(q) | Message::Answered(q, _) | Message::Lost(q) => request_box(q),
     }
 }
 
+#[tactic(auto, unfolding(rules::specs::Line::request_box, rules::specs::Line::holding, rules::specs::Line::holding_box))]
 fn request_box(q: Request) -> u8
     ensures { result ≡ request_box q }
 {
     match q {
-        Request::Reserve(b) => b,
-        Request::Lock(b) => b,
-        Request::GiveBack(b) => b,
-        Request::Unlock(b) => b,
+        Request::Reserve(b) | Request::Lock(b) | Request::GiveBack(b) | Request::Unlock(b) => b,
     }
 }
 
 // The train with another message.
+#[tactic(auto, unfolding(rules::specs::Steps::with_message))]
 pub fn with_message(r: Train, message: Message) -> Train
     ensures { result ≡ with_message r message }
 {
-    Train {
-        direction: r.direction,
-        length: r.length,
-        place: r.place,
-        covered: r.covered,
-        near: r.near,
-        far: r.far,
-        lock: r.lock,
-        message,
-    }
+    Train { message, ..r }
 }
 
 // The train waits for an answer.
+#[tactic(auto, unfolding(rules::specs::Steps::is_open))]
 fn is_open(message: Message) -> bool
     ensures { result ≡ is_open message }
 {
-    match message {
-        Message::Idle => false,
-        Message::Sent(_) => true,
-        Message::Answered(_, _) => true,
-        Message::Lost(_) => true,
-    }
+    !matches!(message, Message::Idle)
 }
 
 // A request about it may be made at its box.
+#[tactic(auto, unfolding(rules::specs::Steps::addressed))]
 fn addressed(v: Around, h: Holding) -> bool
     ensures { result ≡ addressed v h }
 {
@@ -73,32 +59,19 @@ fn addressed(v: Around, h: Holding) -> bool
     }
 }
 
-// Box b is at this end, and the reservation there is recorded.
-fn recorded_at(b: u8, end: u8, before: bool) -> bool
-    ensures { result ≡ (eqb b end && before) }
-{
-    if b != end {
-        return false;
-    }
-    before
-}
-
 // The train has recorded it.
+#[tactic(auto, unfolding(rules::specs::Steps::recorded))]
 fn recorded(v: Around, r: Train, h: Holding) -> bool
     ensures { result ≡ recorded v r h }
 {
     match h {
-        Holding::NextAt(b) => {
-            if recorded_at(b, v.nearEnd, r.near) {
-                return true;
-            }
-            recorded_at(b, v.farEnd, r.far)
-        }
+        Holding::NextAt(b) => b == v.nearEnd && r.near || b == v.farEnd && r.far,
         Holding::LockAt(_) => r.lock,
     }
 }
 
 // Codes 16 and 17 of a request.
+#[tactic(auto, unfolding(rules::specs::Rows::first, rules::specs::Steps::address_rows, rules::specs::Steps::at_end))]
 pub fn address_code(v: Around, r: Train, q: Request) -> u8
     ensures { result ≡ first (address_rows v r q) }
 {
@@ -112,6 +85,7 @@ pub fn address_code(v: Around, r: Train, q: Request) -> u8
 }
 
 // 18 where what is asked for is recorded already, 29 where what is given back is not recorded.
+#[tactic(auto, unfolding(rules::specs::Rows::first, rules::specs::Steps::record_rows))]
 fn record_code(v: Around, r: Train, q: Request) -> u8
     ensures { result ≡ first (record_rows v r q) }
 {
@@ -129,11 +103,11 @@ fn record_code(v: Around, r: Train, q: Request) -> u8
 }
 
 // Codes 15 to 18 and 29 of a request.
+#[tactic(auto, unfolding(rules::specs::Rows::first, rules::specs::Steps::request_rows, rules::specs::Steps::address_rows))]
 pub fn request_code(v: Around, r: Train, q: Request) -> u8
     ensures { result ≡ first (request_rows v r q) }
 {
-    let message = r.message;
-    if is_open(message) {
+    if is_open(r.message) {
         return 15;
     }
     let address = address_code(v, r, q);
@@ -143,58 +117,34 @@ pub fn request_code(v: Around, r: Train, q: Request) -> u8
     record_code(v, r, q)
 }
 
-// The reservation at this end is recorded, if box b is at it or it was so before.
-fn recorded_after(b: u8, end: u8, before: bool) -> bool
-    ensures { result ≡ (eqb b end || before) }
-{
-    if b == end {
-        return true;
-    }
-    before
-}
-
 // The train after it has recorded it.
+#[tactic(auto, unfolding(rules::specs::Steps::with_holding))]
 fn with_holding(v: Around, r: Train, h: Holding) -> Train
     ensures { result ≡ with_holding v r h }
 {
-    let mut train = r;
     match h {
-        Holding::NextAt(b) => {
-            train.near = recorded_after(b, v.nearEnd, r.near);
-            train.far = recorded_after(b, v.farEnd, r.far);
-        }
-        Holding::LockAt(_) => {
-            train.lock = true;
-        }
+        Holding::NextAt(b) => Train {
+            near: b == v.nearEnd || r.near,
+            far: b == v.farEnd || r.far,
+            ..r
+        },
+        Holding::LockAt(_) => Train { lock: true, ..r },
     }
-    train
-}
-
-// The reservation at this end is still recorded, unless box b is at it.
-fn recorded_still(b: u8, end: u8, before: bool) -> bool
-    ensures { result ≡ (not (eqb b end) && before) }
-{
-    if b == end {
-        return false;
-    }
-    before
 }
 
 // The train after it has dropped the record of it.
+#[tactic(auto, unfolding(rules::specs::Steps::without_holding))]
 fn without_holding(v: Around, r: Train, h: Holding) -> Train
     ensures { result ≡ without_holding v r h }
 {
-    let mut train = r;
     match h {
-        Holding::NextAt(b) => {
-            train.near = recorded_still(b, v.nearEnd, r.near);
-            train.far = recorded_still(b, v.farEnd, r.far);
-        }
-        Holding::LockAt(_) => {
-            train.lock = false;
-        }
+        Holding::NextAt(b) => Train {
+            near: b != v.nearEnd && r.near,
+            far: b != v.farEnd && r.far,
+            ..r
+        },
+        Holding::LockAt(_) => Train { lock: false, ..r },
     }
-    train
 }
 
 // The train after it has sent a request: what it gives back is no longer recorded.
@@ -202,29 +152,29 @@ fn without_holding(v: Around, r: Train, h: Holding) -> Train
 pub fn sending(v: Around, r: Train, q: Request) -> Train
     ensures { result ≡ sending v r q }
 {
-    if gives_back(q) {
-        return with_message(without_holding(v, r, holding_of(q)), Message::Sent(q));
-    }
-    with_message(r, Message::Sent(q))
+    let train = if gives_back(q) {
+        without_holding(v, r, holding_of(q))
+    } else {
+        r
+    };
+    with_message(train, Message::Sent(q))
 }
 
 // The train after it has heard an answer: a yes to what it asked for is recorded, and the message is gone.
+#[tactic(auto, unfolding(rules::specs::Steps::heard))]
 pub fn heard(v: Around, r: Train, q: Request, code: u8) -> Train
     ensures { result ≡ heard v r q code }
 {
     let gone = with_message(r, Message::Idle);
-    if code != 0 {
-        return gone;
-    }
-    match q {
-        Request::Reserve(b) => with_holding(v, gone, Holding::NextAt(b)),
-        Request::Lock(b) => with_holding(v, gone, Holding::LockAt(b)),
-        Request::GiveBack(_) => gone,
-        Request::Unlock(_) => gone,
+    if code == 0 && !gives_back(q) {
+        with_holding(v, gone, holding_of(q))
+    } else {
+        gone
     }
 }
 
 // Codes 20, 16 and 19 of Enter.
+#[tactic(auto, unfolding(rules::specs::Rows::first, rules::specs::Steps::enter_rows, rules::specs::Steps::at_end))]
 pub fn enter_code(v: Around, r: Train) -> u8
     ensures { result ≡ first (enter_rows v r) }
 {
@@ -234,16 +184,7 @@ pub fn enter_code(v: Around, r: Train) -> u8
     if r.length <= r.place {
         return 16;
     }
-    if !r.near {
-        return 19;
-    }
-    if !r.far {
-        return 19;
-    }
-    if !v.point {
-        return 0;
-    }
-    if !r.lock {
+    if !(r.near && r.far && (!v.point || r.lock)) {
         return 19;
     }
     0

@@ -22,29 +22,24 @@ pub fn kinds(plans: [BoxPlan; 96]) -> [u8; 256]
 }
 
 // The box at the far end of segment s in direction d.
+#[tactic(auto, unfolding(rules::specs::Track::far_box))]
 pub fn far(d: u8, s: u8, a: &[u8; 256], b: &[u8; 256]) -> u8
     ensures { result ≡ far_box (track_in a.now b.now) d s }
 {
     if d == 0 { b[s as usize] } else { a[s as usize] }
 }
 
-// The box at the near end of segment s in direction d.
+// The box at the near end of segment s in direction d: the far end with the two ends exchanged.
+#[tactic(auto, unfolding(rules::specs::Track::near_box, rules::specs::Track::far_box))]
 fn near(d: u8, s: u8, a: &[u8; 256], b: &[u8; 256]) -> u8
     ensures { result ≡ near_box (track_in a.now b.now) d s }
 {
-    if d == 0 { a[s as usize] } else { b[s as usize] }
-}
-
-// A place so many places back, 0 where that is before the route.
-fn back(p: usize, covered: u8) -> usize
-    ensures { result ≡ p - covered }
-{
-    let places = covered as usize;
-    if places > p { 0 } else { p - places }
+    far(d, s, b, a)
 }
 
 // What stands around the train with this number and record: by the routes in force, and by the boxes at the A ends and the B ends
 // of segments, the ways of segments and the kinds of boxes, each by its number.
+#[tactic(auto, unfolding(rules::specs::Line::around_on))]
 pub fn around(
     number: u8,
     r: Train,
@@ -58,27 +53,22 @@ pub fn around(
 {
     let d = r.direction;
     let place = r.place as usize;
+    let covered = r.covered as usize;
     let front = segment_at(routes, number, place);
     let next = segment_at(routes, number, place + 1);
-    let tail = segment_at(routes, number, back(place + 1, r.covered));
-    let second = segment_at(routes, number, back(place + 2, r.covered));
-    let against = network::runs_against(d, ways[next as usize]);
+    let tail = segment_at(routes, number, (place + 1).saturating_sub(covered));
     let ahead = far(d, front, a, b);
-    let point = kinds[ahead as usize] == 2;
-    let nearEnd = near(d, next, a, b);
-    let farEnd = far(d, next, a, b);
-    let passed = far(d, tail, a, b);
     Around {
         number,
         front,
         next,
         tail,
-        second,
-        against,
+        second: segment_at(routes, number, (place + 2).saturating_sub(covered)),
+        against: network::runs_against(d, ways[next as usize]),
         ahead,
-        point,
-        nearEnd,
-        farEnd,
-        passed,
+        point: kinds[ahead as usize] == 2,
+        nearEnd: near(d, next, a, b),
+        farEnd: far(d, next, a, b),
+        passed: far(d, tail, a, b),
     }
 }

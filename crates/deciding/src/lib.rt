@@ -27,19 +27,20 @@ fn no_byte_code(at: u8) -> u8
 }
 
 // Code 13 of kinds 1 to 10: kinds 3 to 6, 9 and 10 have no box byte.
+#[tactic(auto, unfolding(rules::specs::Rows::first, rules::specs::Steps::form_rows, rules::specs::Steps::formed))]
 fn byte_code(kind: u8, at: u8) -> u8
     requires le_kind { 1 ≤ kind }
     requires kind_bound { kind ≤ 10 }
     ensures { result ≡ first (form_rows kind at) }
 {
     match kind {
-        3..=6 => no_byte_code(at),
-        9..=10 => no_byte_code(at),
+        3..=6 | 9..=10 => no_byte_code(at),
         _ => 0,
     }
 }
 
 // Code 13: kinds 1, 2, 7 and 8 have a box byte, kinds 3 to 6, 9 and 10 have none, and there is no other kind.
+#[tactic(auto, unfolding(rules::specs::Rows::first, rules::specs::Steps::form_rows, rules::specs::Steps::formed))]
 pub fn form_code(kind: u8, at: u8) -> u8
     ensures { result ≡ first (form_rows kind at) }
 {
@@ -50,12 +51,12 @@ pub fn form_code(kind: u8, at: u8) -> u8
 }
 
 // The box that a step concerns: for kind 3 the box of the message, for 5 the box ahead, for 6 the box passed; else 0.
+#[tactic(auto, unfolding(rules::specs::Steps::concerned_box))]
 pub fn concerned(kind: u8, v: Around, r: Train) -> u8
     ensures { result ≡ concerned_box kind v r }
 {
-    let message = r.message;
     match kind {
-        3 => traincomputer::message_box(message),
+        3 => traincomputer::message_box(r.message),
         5 => v.ahead,
         6 => v.passed,
         _ => 0,
@@ -67,12 +68,14 @@ fn returned(kind: u8, at: u8) -> Request
     ensures { result ≡ cond (eqb kind 7) (GiveBack at) (Unlock at) }
 {
     if kind == 7 {
-        return Request::GiveBack(at);
+        Request::GiveBack(at)
+    } else {
+        Request::Unlock(at)
     }
-    Request::Unlock(at)
 }
 
 // The kinds that are the train's alone, 1, 2, 4 and 7 to 10; there is no other. The box is handed through.
+#[tactic(auto, unfolding(rules::specs::Steps::alone, rules::specs::Line::gives_back))]
 pub fn alone(kind: u8, at: u8, v: Around, r: Train, x: SwitchBox) -> Effect
     ensures { result ≡ alone kind at v r x }
 {
@@ -87,6 +90,7 @@ pub fn alone(kind: u8, at: u8, v: Around, r: Train, x: SwitchBox) -> Effect
 
 // A step by its kind: of the train with this record and what stands around it, at the box that it concerns. Which kinds have no box
 // byte is `form_code`'s affair.
+#[tactic(auto, unfolding(rules::specs::Steps::effect))]
 pub fn decide(kind: u8, at: u8, v: Around, r: Train, p: BoxPlan, x: SwitchBox) -> Effect
     ensures { result ≡ effect kind at v r p x }
 {
@@ -102,24 +106,11 @@ pub fn decide(kind: u8, at: u8, v: Around, r: Train, p: BoxPlan, x: SwitchBox) -
 pub fn no_plan() -> BoxPlan
     ensures { result ≡ no_box_plan }
 {
-    BoxPlan {
-        kind: 0,
-        stem: 0,
-        left: 0,
-        right: 0,
-        position: 0,
-    }
+    BoxPlan::default()
 }
 
 pub fn no_box() -> SwitchBox
     ensures { result ≡ no_box }
 {
-    SwitchBox {
-        sensor: false,
-        position: 0,
-        lock: 0,
-        stem: 0,
-        left: 0,
-        right: 0,
-    }
+    SwitchBox::default()
 }

@@ -6,38 +6,29 @@ ghost use Rattle.rules.specs.Steps.{with_message, lose, send_again};
 
 use rules::{Effect, Message, Request, SwitchBox, Train};
 
-// The train waits on, nothing of its request being under way.
-fn lost(r: Train, x: SwitchBox, q: Request) -> Effect
-    ensures { result ≡ Changed 0 (with_message r (Lost q)) x }
-{
-    Effect::Changed(0, traincomputer::with_message(r, Message::Lost(q)), x)
-}
-
 // Kind 9: a request or its answer is lost.
+#[tactic(auto, unfolding(rules::specs::Steps::lose))]
 fn lose(r: Train, x: SwitchBox) -> Effect
     ensures { result ≡ lose r x r.message }
 {
-    let message = r.message;
-    match message {
-        Message::Idle => Effect::Refused(30),
-        Message::Sent(q) => lost(r, x, q),
-        Message::Answered(q, _) => lost(r, x, q),
-        Message::Lost(_) => Effect::Refused(30),
+    match r.message {
+        Message::Sent(q) | Message::Answered(q, _) => {
+            Effect::Changed(0, traincomputer::with_message(r, Message::Lost(q)), x)
+        }
+        Message::Idle | Message::Lost(_) => Effect::Refused(30),
     }
 }
 
 // Kind 10: a lost request is sent again.
+#[tactic(auto, unfolding(rules::specs::Steps::send_again))]
 fn send_again(r: Train, x: SwitchBox) -> Effect
     ensures { result ≡ send_again r x r.message }
 {
-    let message = r.message;
-    match message {
-        Message::Idle => Effect::Refused(30),
-        Message::Sent(_) => Effect::Refused(30),
-        Message::Answered(_, _) => Effect::Refused(30),
+    match r.message {
         Message::Lost(q) => {
             Effect::Changed(0, traincomputer::with_message(r, Message::Sent(q)), x)
         }
+        Message::Idle | Message::Sent(_) | Message::Answered(_, _) => Effect::Refused(30),
     }
 }
 

@@ -6,6 +6,7 @@ ghost use Rattle.rules.specs.Steps.{send, reply, box_answers, train_hears};
 use rules::{Around, BoxPlan, Effect, Message, Request, SwitchBox, Train};
 
 // Kinds 1, 2, 7 and 8: the message is sent, and what is given back is no longer recorded.
+#[tactic(auto, unfolding(rules::specs::Steps::send, rules::specs::Steps::unless))]
 pub(crate) fn send(v: Around, r: Train, x: SwitchBox, q: Request) -> Effect
     ensures { result ≡ send v r x q }
 {
@@ -17,6 +18,7 @@ pub(crate) fn send(v: Around, r: Train, x: SwitchBox, q: Request) -> Effect
 }
 
 // Kinds 1 and 2: the same of a request that gives nothing back. Its two calls are compiled in place, which `send` is too long for.
+#[tactic(auto, unfolding(rules::specs::Steps::send, rules::specs::Steps::sending, rules::specs::Steps::unless))]
 pub(crate) fn ask(v: Around, r: Train, x: SwitchBox, q: Request) -> Effect
     requires { gives_back q ≡ false }
     ensures { result ≡ send v r x q }
@@ -29,6 +31,7 @@ pub(crate) fn ask(v: Around, r: Train, x: SwitchBox, q: Request) -> Effect
 }
 
 // The box answers a request: a yes is carried out, if it is not yet; a no leaves it as it was.
+#[tactic(auto, unfolding(rules::specs::Steps::reply))]
 fn reply(v: Around, r: Train, p: BoxPlan, x: SwitchBox, q: Request) -> Effect
     ensures { result ≡ reply v r p x q }
 {
@@ -41,27 +44,23 @@ fn reply(v: Around, r: Train, p: BoxPlan, x: SwitchBox, q: Request) -> Effect
 }
 
 // Kind 3: the box answers a message that is sent.
+#[tactic(auto, unfolding(rules::specs::Steps::box_answers))]
 pub fn answer(v: Around, r: Train, p: BoxPlan, x: SwitchBox) -> Effect
     ensures { result ≡ box_answers v r p x r.message }
 {
-    let message = r.message;
-    match message {
-        Message::Idle => Effect::Refused(21),
+    match r.message {
         Message::Sent(q) => reply(v, r, p, x, q),
-        Message::Answered(_, _) => Effect::Refused(21),
-        Message::Lost(_) => Effect::Refused(21),
+        Message::Idle | Message::Answered(_, _) | Message::Lost(_) => Effect::Refused(21),
     }
 }
 
 // Kind 4: the train hears an answer that is on its way, with the answer's code.
+#[tactic(auto, unfolding(rules::specs::Steps::train_hears))]
 pub(crate) fn hear(v: Around, r: Train, x: SwitchBox) -> Effect
     ensures { result ≡ train_hears v r x r.message }
 {
-    let message = r.message;
-    match message {
-        Message::Idle => Effect::Refused(21),
-        Message::Sent(_) => Effect::Refused(21),
+    match r.message {
         Message::Answered(q, code) => Effect::Changed(code, traincomputer::heard(v, r, q, code), x),
-        Message::Lost(_) => Effect::Refused(21),
+        Message::Idle | Message::Sent(_) | Message::Lost(_) => Effect::Refused(21),
     }
 }

@@ -1,2 +1,0 @@
--- What row Step says, from what holds of the kind and the box byte.
-pub mod Forms

@@ -2,28 +2,51 @@
 // after a train.
 #![tactic(auto)]
 
-ghost use Rattle.std.specs.Prelude.{◌≡◌, ℕ, cond, ◌&&◌, eqb};
+ghost use Rattle.std.specs.Prelude.{◌≡◌, ℕ, cond, eqb};
 ghost use Rattle.rules.specs.Rows.{first};
 ghost use Rattle.rules.specs.Track.{joins};
 ghost use Rattle.rules.specs.declared.Holding.TheVariants.{NextAt, LockAt};
 ghost use Rattle.rules.specs.Line.{holder_of, set_holder};
-ghost use Rattle.rules.specs.Steps.{another, grant_rows, box_rows, position_for, lock_given, lock_freed, stands, given, freed, granted, released};
+ghost use Rattle.rules.specs.Steps.{another, grant_rows, box_rows, position_for, lock_given, stands, given, freed, granted, released};
+ghost use Rattle.rules.specs.Errors.{answer_of};
 
 use messages::{gives_back, holding_of};
-use rules::{Around, BoxPlan, Holding, Request, SwitchBox};
-
-// The box's code for a yes.
-const YES: u8 = 0;
+use rules::{Around, BoxPlan, Denial, Holding, Request, SwitchBox};
 
 // A train at a box: what stands around the train, and the box's plan and record.
 #[derive(Clone, Copy)]
-struct AtBox {
-    around: Around,
-    plan: BoxPlan,
-    state: SwitchBox,
+pub struct AtBox {
+    pub around: Around,
+    pub plan: BoxPlan,
+    pub state: SwitchBox,
 }
 
 impl AtBox {
+    // The box's answer to a request: what gives back is always answered yes, and so is what the box has for the train already.
+    #[tactic(auto, unfolding(rules::specs::Rows::first, rules::specs::Steps::box_rows))]
+    pub fn answer(self, q: Request) -> Result<(), Denial>
+        ensures { answer_of result ≡ first (box_rows self.around self.plan self.state q) }
+    {
+        let about = holding_of(q);
+        if gives_back(q) || self.stands(about) {
+            return Ok(());
+        }
+        self.grant(about)
+    }
+
+    // The box after its yes.
+    #[tactic(auto, unfolding(rules::specs::Steps::granted))]
+    pub fn granted(self, q: Request) -> SwitchBox
+        ensures { result ≡ granted self.around self.plan self.state q }
+    {
+        let about = holding_of(q);
+        if gives_back(q) {
+            self.taken_back(about)
+        } else {
+            self.made_own(about)
+        }
+    }
+
     // The train that segment s is reserved for here, 0 where there is none.
     #[tactic(auto, unfolding(rules::specs::Line::holder_of))]
     fn holder_of(self, s: u8) -> u8
@@ -40,54 +63,59 @@ impl AtBox {
         }
     }
 
-    // Codes 31 and 22 of a reservation, whatever the box's number.
-    #[tactic(auto, unfolding(rules::specs::Rows::first, rules::specs::Steps::grant_rows))]
-    fn reserve_code(self) -> u8
-        ensures { (b : ℕ) → result ≡ first (grant_rows self.around self.plan self.state (NextAt b)) }
+    // Segment s is reserved for the train here.
+    fn reserved(self, s: u8) -> bool
+        ensures { result ≡ eqb (holder_of self.plan self.state s) self.around.number }
     {
-        let taken = another(self.around.number, self.holder_of(self.around.next));
+        self.holder_of(s) == self.around.number
+    }
+
+    // The holder is somebody else than the train.
+    #[tactic(auto, unfolding(rules::specs::Steps::another))]
+    fn another(self, holder: u8) -> bool
+        ensures { result ≡ another self.around.number holder }
+    {
+        holder != 0 && holder != self.around.number
+    }
+
+    // The box's answer to a request for next, whatever the box's number.
+    #[tactic(auto, unfolding(rules::specs::Rows::first, rules::specs::Steps::grant_rows))]
+    fn grant_next(self) -> Result<(), Denial>
+        ensures { (b : ℕ) → answer_of result ≡ first (grant_rows self.around self.plan self.state (NextAt b)) }
+    {
         if self.around.against {
-            return 31;
+            return Err(Denial::AgainstWay);
         }
-        if taken {
-            return 22;
+        if self.another(self.holder_of(self.around.next)) {
+            return Err(Denial::Taken);
         }
-        YES
+        Ok(())
     }
 
-    // Front and next are reserved for the train here.
-    fn holds_both(self) -> bool
-        ensures { result ≡ (eqb (holder_of self.plan self.state self.around.front) self.around.number
-            && eqb (holder_of self.plan self.state self.around.next) self.around.number) }
-    {
-        self.holder_of(self.around.front) == self.around.number && self.holder_of(self.around.next) == self.around.number
-    }
-
-    // Codes 24, 23 and 25 of a lock, whatever the box's number.
+    // The box's answer to a request for its lock, whatever the box's number.
     #[tactic(auto, unfolding(rules::specs::Rows::first, rules::specs::Steps::grant_rows))]
-    fn lock_code(self) -> u8
-        ensures { (b : ℕ) → result ≡ first (grant_rows self.around self.plan self.state (LockAt b)) }
+    fn grant_lock(self) -> Result<(), Denial>
+        ensures { (b : ℕ) → answer_of result ≡ first (grant_rows self.around self.plan self.state (LockAt b)) }
     {
-        let held = another(self.around.number, self.state.lock);
-        if held {
-            return 24;
+        if self.another(self.state.lock) {
+            return Err(Denial::LockTaken);
         }
         if self.state.sensor {
-            return 23;
+            return Err(Denial::SensorActive);
         }
-        if !self.holds_both() {
-            return 25;
+        if !(self.reserved(self.around.front) && self.reserved(self.around.next)) {
+            return Err(Denial::NotBothReserved);
         }
-        YES
+        Ok(())
     }
 
-    // The box's code for what is asked for.
-    fn grant_code(self, h: Holding) -> u8
-        ensures { result ≡ first (grant_rows self.around self.plan self.state h) }
+    // The box's answer to what is asked for.
+    fn grant(self, h: Holding) -> Result<(), Denial>
+        ensures { answer_of result ≡ first (grant_rows self.around self.plan self.state h) }
     {
         match h {
-            Holding::NextAt(_) => self.reserve_code(),
-            Holding::LockAt(_) => self.lock_code(),
+            Holding::NextAt(_) => self.grant_next(),
+            Holding::LockAt(_) => self.grant_lock(),
         }
     }
 
@@ -97,7 +125,7 @@ impl AtBox {
         ensures { result ≡ stands self.around self.plan self.state h }
     {
         match h {
-            Holding::NextAt(_) => self.holder_of(self.around.next) == self.around.number,
+            Holding::NextAt(_) => self.reserved(self.around.next),
             Holding::LockAt(_) => self.state.lock == self.around.number,
         }
     }
@@ -119,7 +147,12 @@ impl AtBox {
         ensures { result ≡ given self.around self.plan self.state h }
     {
         match h {
-            Holding::NextAt(_) => set_holder(self.plan, self.state, self.around.next, self.around.number),
+            Holding::NextAt(_) => set_holder(
+                self.plan,
+                self.state,
+                self.around.next,
+                self.around.number,
+            ),
             Holding::LockAt(_) => self.locked(),
         }
     }
@@ -131,7 +164,10 @@ impl AtBox {
     {
         match h {
             Holding::NextAt(_) => set_holder(self.plan, self.state, self.around.next, 0),
-            Holding::LockAt(_) => SwitchBox { lock: 0, ..self.state },
+            Holding::LockAt(_) => SwitchBox {
+                lock: 0,
+                ..self.state
+            },
         }
     }
 
@@ -139,36 +175,23 @@ impl AtBox {
     fn taken_back(self, h: Holding) -> SwitchBox
         ensures { result ≡ cond (stands self.around self.plan self.state h) (freed self.around self.plan self.state h) self.state }
     {
-        if self.stands(h) { self.freed(h) } else { self.state }
+        if self.stands(h) {
+            self.freed(h)
+        } else {
+            self.state
+        }
     }
 
     // The box once it is the train's: as it was, if it was so already.
     fn made_own(self, h: Holding) -> SwitchBox
         ensures { result ≡ cond (stands self.around self.plan self.state h) self.state (given self.around self.plan self.state h) }
     {
-        if self.stands(h) { self.state } else { self.given(h) }
+        if self.stands(h) {
+            self.state
+        } else {
+            self.given(h)
+        }
     }
-}
-
-// The box with segment s given to a train.
-#[tactic(auto, unfolding(rules::specs::Line::set_holder))]
-pub fn set_holder(p: BoxPlan, x: SwitchBox, s: u8, train: u8) -> SwitchBox
-    ensures { result ≡ set_holder p x s train }
-{
-    SwitchBox {
-        stem: if s == p.stem { train } else { x.stem },
-        left: if s == p.left { train } else { x.left },
-        right: if s == p.right { train } else { x.right },
-        ..x
-    }
-}
-
-// Somebody else than train i.
-#[tactic(auto, unfolding(rules::specs::Steps::another))]
-fn another(i: u8, holder: u8) -> bool
-    ensures { result ≡ another i holder }
-{
-    holder != 0 && holder != i
 }
 
 // Position 1 of a point joins segments s and z: one is the stem, the other the left branch.
@@ -187,27 +210,17 @@ fn position_for(p: BoxPlan, s: u8, z: u8) -> u8
     if joins_left(p, s, z) { 1 } else { 2 }
 }
 
-// The box's code for a request: what gives back is always answered yes, and so is what the box has for the train already.
-#[tactic(auto, unfolding(rules::specs::Rows::first, rules::specs::Steps::box_rows))]
-pub fn box_code(v: Around, p: BoxPlan, x: SwitchBox, q: Request) -> u8
-    ensures { result ≡ first (box_rows v p x q) }
+// The box with segment s given to a train.
+#[tactic(auto, unfolding(rules::specs::Line::set_holder))]
+pub fn set_holder(p: BoxPlan, x: SwitchBox, s: u8, train: u8) -> SwitchBox
+    ensures { result ≡ set_holder p x s train }
 {
-    let here = AtBox { around: v, plan: p, state: x };
-    let about = holding_of(q);
-    if gives_back(q) || here.stands(about) {
-        return YES;
+    SwitchBox {
+        stem: if s == p.stem { train } else { x.stem },
+        left: if s == p.left { train } else { x.left },
+        right: if s == p.right { train } else { x.right },
+        ..x
     }
-    here.grant_code(about)
-}
-
-// The box after its yes.
-#[tactic(auto, unfolding(rules::specs::Steps::granted))]
-pub fn granted(v: Around, p: BoxPlan, x: SwitchBox, q: Request) -> SwitchBox
-    ensures { result ≡ granted v p x q }
-{
-    let here = AtBox { around: v, plan: p, state: x };
-    let about = holding_of(q);
-    if gives_back(q) { here.taken_back(about) } else { here.made_own(about) }
 }
 
 // The box that a train has passed: sensor passive, lock free, the reservations of both segments free.
@@ -215,6 +228,10 @@ pub fn granted(v: Around, p: BoxPlan, x: SwitchBox, q: Request) -> SwitchBox
 pub fn released(p: BoxPlan, x: SwitchBox, s: u8, z: u8) -> SwitchBox
     ensures { result ≡ released p x s z }
 {
-    let free = SwitchBox { sensor: false, lock: 0, ..x };
+    let free = SwitchBox {
+        sensor: false,
+        lock: 0,
+        ..x
+    };
     set_holder(p, set_holder(p, free, s, 0), z, 0)
 }

@@ -2,10 +2,11 @@
 // what 01 says ("Table S and its printout").
 #![tactic(auto)]
 
-ghost use Rattle.std.specs.Prelude.{◌≡◌, ◌≤◌, length, take};
+ghost use Rattle.std.specs.Prelude.{◌≡◌, ◌≤◌, length, OnOk, take};
+ghost use Rattle.std.specs.Io.KnownBytes.{Appends};
 ghost use Rattle.rules.specs.Printout.{most_file, most_input, printout};
 
-use std::io::Read;
+use std::io::Write;
 use std::rt::Files;
 use std::{fs, io};
 
@@ -31,44 +32,15 @@ fn input_buffer() -> [u8; MOST_INPUT]
     [0; MOST_INPUT]
 }
 
-// Reads until the buffer is full or the file ends, and answers how many bytes it put at the start of the buffer; 0 where a read
-// fails.
-fn read_whole(file: &mut impl Read, buffer: &mut [u8]) -> usize
-    ensures { result ≤ length buffer.new }
-{
-    let mut done = 0;
-    while done < buffer.len() {
-        match file.read(&mut buffer[done..]) {
-            Ok(0) => return done,
-            Ok(more) => done += more,
-            Err(_) => return 0,
-        }
-    }
-    done
-}
-
-// The same of the file `net`, with 0 where it cannot be opened.
+// Reads the front of the file `net`, and answers how many bytes it put at the start of the buffer; 0 where the file cannot be opened or
+// a read fails.
 fn read_net(rt: &impl Files, buffer: &mut [u8]) -> usize
     ensures { result ≤ length buffer.new }
 {
-    match fs::open(rt, "net") {
-        Ok(mut file) => read_whole(&mut file, buffer),
-        Err(_) => 0,
+    match fs::open(rt, "net").map(|mut file| input::fill(&mut file, buffer)) {
+        Ok((size, Ok(()))) => size,
+        _ => 0,
     }
-}
-
-// Reads until the buffer is full, the input ends or a read fails, and answers how many bytes it put at the start of the buffer.
-fn read_full(input: &mut impl Read, buffer: &mut [u8]) -> usize
-    ensures { result ≤ length buffer.new }
-{
-    let mut done = 0;
-    while done < buffer.len() {
-        match input.read(&mut buffer[done..]) {
-            Ok(0) | Err(_) => break,
-            Ok(more) => done += more,
-        }
-    }
-    done
 }
 
 // Puts what is printed at the start of the text's buffer, and answers its length.
@@ -85,31 +57,33 @@ fn put_text(
     printed.length
 }
 
-// Writes the first bytes of a buffer to standard output.
-fn write_front(rt: &impl Print, text: &[u8], size: usize) -> io::Result<()>
-    requires { size ≤ length text.now }
-{
-    rt.write_all(&text[..size])
-}
-
-// Writes what is printed to standard output.
-fn write_text(
-    rt: &impl Print,
+// Writes what is printed.
+fn write_text<W: Write>(
+    out: &mut W,
     net: &[u8],
     input: &[u8],
     answers: &mut [u8; MOST_STEPS],
     text: &mut [u8; MOST_TEXT],
-) -> io::Result<()> {
+) -> io::Result<()>
+    ensures { OnOk result (Appends (W.contents out.old) (W.contents out.new) (printout net.now input.now)) }
+{
     let length = put_text(net, input, answers, text);
-    write_front(rt, text, length)
+    out.write_all(&text[..length])
 }
 
 fn main(rt: HostRuntime) -> io::Result<()> {
     let mut net = file_buffer();
     let size = read_net(&rt, &mut net);
     let mut input = input_buffer();
-    let length = read_full(&mut rt.stdin(), &mut input);
+    // The steps before a read that fails are taken.
+    let (length, _) = input::fill(&mut rt.stdin(), &mut input);
     let mut answers = [0u8; MOST_STEPS];
     let mut text = [0u8; MOST_TEXT];
-    write_text(&rt, &net[..size], &input[..length], &mut answers, &mut text)
+    write_text(
+        &mut io::writer(&rt),
+        &net[..size],
+        &input[..length],
+        &mut answers,
+        &mut text,
+    )
 }

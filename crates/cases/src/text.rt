@@ -1,22 +1,15 @@
-// Text on standard output.
-use std::io;
-
-pub(crate) fn put(rt: &impl Print, character: u8) -> io::Result<()> {
-    rt.write_all(&[character])
-}
-
-pub(crate) fn put_decimal(rt: &impl Print, number: u8) -> io::Result<()> {
-    rt.print(number)
-}
+// Bytes as text.
+use std::fmt;
 
 // Two hexadecimal digits for each byte.
-pub(crate) fn put_hex(rt: &impl Print, bytes: &[u8]) -> io::Result<()> {
-    for byte in bytes {
-        put_byte(rt, *byte)?;
-    }
-    Ok(())
-}
+#[derive(Clone, Copy)]
+pub(crate) struct Hex<'a>(pub(crate) &'a [u8]);
 
-fn put_byte(rt: &impl Print, byte: u8) -> io::Result<()> {
-    print!(rt; "{byte:02x}")
+impl fmt::Display for Hex<'_> {
+    fn fmt<W: fmt::Write>(&self, f: &mut fmt::Formatter<W>) -> fmt::Result {
+        for byte in self.0 {
+            write!(f, "{byte:02x}")?;
+        }
+        Ok(())
+    }
 }

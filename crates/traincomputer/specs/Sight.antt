@@ -1,16 +1,10 @@
 -- What stands around a train, from columns: lists of 256 numbers, of the boxes at the A ends and at the B ends of segments and of their
 -- ways by the segment's number, and of the kinds of boxes by the box's number.
 use Rattle.std.specs.Prelude.{ℕ, List}
-use Rattle.rules.specs.declared.BoxPlan.{BoxPlan}
 use Rattle.rules.specs.declared.Train.{Train}
 use Rattle.rules.specs.declared.Around.{Around}
-use Rattle.rules.specs.Rows.{nth}
-use Rattle.rules.specs.Track.{no_box_plan, track_in, way_in, point_in}
+use Rattle.rules.specs.Track.{track_in, way_in, point_in}
 use Rattle.rules.specs.Line.{around_on}
-
--- The kind of box b of these plans.
-unfoldable pub kind_of : List BoxPlan → ℕ → ℕ
-kind_of plans b = (nth plans b no_box_plan).kind
 
 -- `around_on` of `rules`, on these columns.
 abbrev pub around_in : List ℕ → List ℕ → List ℕ → List ℕ → List ℕ → ℕ → Train → Around

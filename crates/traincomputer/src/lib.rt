@@ -4,13 +4,14 @@
 
 pub mod sight;
 
-ghost use Rattle.std.specs.Prelude.{◌≡◌, not, ◌&&◌, ◌||◌, eqb};
+ghost use Rattle.std.specs.Prelude.{◌≡◌};
 ghost use Rattle.rules.specs.Rows.{first};
 ghost use Rattle.rules.specs.Line.{request_box, message_box};
 ghost use Rattle.rules.specs.Steps.{with_message, is_open, addressed, recorded, address_rows, record_rows, request_rows, with_holding, without_holding, sending, heard, enter_rows};
+ghost use Rattle.rules.specs.Errors.{stopped};
 
 use messages::{gives_back, holding_of};
-use rules::{Around, Holding, Message, Request, Train};
+use rules::{Around, Holding, Message, Request, StepError, Train};
 
 // The box of a message, 0 where there is none.
 #[tactic(auto, unfolding(rules::specs::Line::message_box))]
@@ -59,133 +60,143 @@ fn addressed(v: Around, h: Holding) -> bool
     }
 }
 
-// The train has recorded it.
-#[tactic(auto, unfolding(rules::specs::Steps::recorded))]
-fn recorded(v: Around, r: Train, h: Holding) -> bool
-    ensures { result ≡ recorded v r h }
-{
-    match h {
-        Holding::NextAt(b) => b == v.nearEnd && r.near || b == v.farEnd && r.far,
-        Holding::LockAt(_) => r.lock,
-    }
+// What a train's computer knows: what stands around the train, and the train's record.
+#[derive(Clone, Copy)]
+pub struct Computer {
+    pub around: Around,
+    pub train: Train,
 }
 
-// Codes 16 and 17 of a request.
-#[tactic(auto, unfolding(rules::specs::Rows::first, rules::specs::Steps::address_rows, rules::specs::Steps::at_end))]
-pub fn address_code(v: Around, r: Train, q: Request) -> u8
-    ensures { result ≡ first (address_rows v r q) }
-{
-    if r.length <= r.place {
-        return 16;
-    }
-    if !addressed(v, holding_of(q)) {
-        return 17;
-    }
-    0
-}
-
-// 18 where what is asked for is recorded already, 29 where what is given back is not recorded.
-#[tactic(auto, unfolding(rules::specs::Rows::first, rules::specs::Steps::record_rows))]
-fn record_code(v: Around, r: Train, q: Request) -> u8
-    ensures { result ≡ first (record_rows v r q) }
-{
-    let known = recorded(v, r, holding_of(q));
-    if gives_back(q) {
-        if known {
-            return 0;
+impl Computer {
+    // Codes 16 and 17 of a request.
+    #[tactic(auto, unfolding(rules::specs::Rows::first, rules::specs::Steps::address_rows, rules::specs::Steps::at_end))]
+    pub fn check_address(self, q: Request) -> Result<(), StepError>
+        ensures { stopped result ≡ first (address_rows self.around self.train q) }
+    {
+        if self.train.length <= self.train.place {
+            return Err(StepError::RouteEnds);
         }
-        return 29;
+        if !addressed(self.around, holding_of(q)) {
+            return Err(StepError::NotAddressed);
+        }
+        Ok(())
     }
-    if known {
-        return 18;
-    }
-    0
-}
 
-// Codes 15 to 18 and 29 of a request.
-#[tactic(auto, unfolding(rules::specs::Rows::first, rules::specs::Steps::request_rows, rules::specs::Steps::address_rows))]
-pub fn request_code(v: Around, r: Train, q: Request) -> u8
-    ensures { result ≡ first (request_rows v r q) }
-{
-    if is_open(r.message) {
-        return 15;
+    // Codes 15 to 18 and 29 of a request.
+    #[tactic(auto, using(rules::proofs::Coded::step_coded), unfolding(rules::specs::Rows::first, rules::specs::Steps::request_rows, rules::specs::Steps::address_rows))]
+    pub fn check_request(self, q: Request) -> Result<(), StepError>
+        ensures { stopped result ≡ first (request_rows self.around self.train q) }
+    {
+        if is_open(self.train.message) {
+            return Err(StepError::MessageOpen);
+        }
+        self.check_address(q)?;
+        self.check_record(q)
     }
-    let address = address_code(v, r, q);
-    if address != 0 {
-        return address;
-    }
-    record_code(v, r, q)
-}
 
-// The train after it has recorded it.
-#[tactic(auto, unfolding(rules::specs::Steps::with_holding))]
-fn with_holding(v: Around, r: Train, h: Holding) -> Train
-    ensures { result ≡ with_holding v r h }
-{
-    match h {
-        Holding::NextAt(b) => Train {
-            near: b == v.nearEnd || r.near,
-            far: b == v.farEnd || r.far,
-            ..r
-        },
-        Holding::LockAt(_) => Train { lock: true, ..r },
+    // 18 where what is asked for is recorded already, 29 where what is given back is not recorded.
+    #[tactic(auto, unfolding(rules::specs::Rows::first, rules::specs::Steps::record_rows))]
+    fn check_record(self, q: Request) -> Result<(), StepError>
+        ensures { stopped result ≡ first (record_rows self.around self.train q) }
+    {
+        match (gives_back(q), self.recorded(holding_of(q))) {
+            (false, true) => Err(StepError::RecordedAlready),
+            (true, false) => Err(StepError::NotRecorded),
+            _ => Ok(()),
+        }
     }
-}
 
-// The train after it has dropped the record of it.
-#[tactic(auto, unfolding(rules::specs::Steps::without_holding))]
-fn without_holding(v: Around, r: Train, h: Holding) -> Train
-    ensures { result ≡ without_holding v r h }
-{
-    match h {
-        Holding::NextAt(b) => Train {
-            near: b != v.nearEnd && r.near,
-            far: b != v.farEnd && r.far,
-            ..r
-        },
-        Holding::LockAt(_) => Train { lock: false, ..r },
+    // Codes 20, 16 and 19 of Enter.
+    #[tactic(auto, unfolding(rules::specs::Rows::first, rules::specs::Steps::enter_rows, rules::specs::Steps::at_end))]
+    pub fn check_enter(self) -> Result<(), StepError>
+        ensures { stopped result ≡ first (enter_rows self.around self.train) }
+    {
+        if self.train.covered >= 2 {
+            return Err(StepError::WrongSpan);
+        }
+        if self.train.length <= self.train.place {
+            return Err(StepError::RouteEnds);
+        }
+        if !(self.train.near && self.train.far && (!self.around.point || self.train.lock)) {
+            return Err(StepError::NotReserved);
+        }
+        Ok(())
     }
-}
 
-// The train after it has sent a request: what it gives back is no longer recorded.
-#[tactic(auto, unfolding(rules::specs::Steps::sending))]
-pub fn sending(v: Around, r: Train, q: Request) -> Train
-    ensures { result ≡ sending v r q }
-{
-    let train = if gives_back(q) {
-        without_holding(v, r, holding_of(q))
-    } else {
-        r
-    };
-    with_message(train, Message::Sent(q))
-}
+    // The train after it has sent a request: what it gives back is no longer recorded.
+    #[tactic(auto, unfolding(rules::specs::Steps::sending))]
+    pub fn sending(self, q: Request) -> Train
+        ensures { result ≡ sending self.around self.train q }
+    {
+        let train = if gives_back(q) {
+            self.without_holding(holding_of(q))
+        } else {
+            self.train
+        };
+        with_message(train, Message::Sent(q))
+    }
 
-// The train after it has heard an answer: a yes to what it asked for is recorded, and the message is gone.
-#[tactic(auto, unfolding(rules::specs::Steps::heard))]
-pub fn heard(v: Around, r: Train, q: Request, code: u8) -> Train
-    ensures { result ≡ heard v r q code }
-{
-    let gone = with_message(r, Message::Idle);
-    if code == 0 && !gives_back(q) {
-        with_holding(v, gone, holding_of(q))
-    } else {
-        gone
+    // The train after it has heard an answer: a yes to what it asked for is recorded, and the message is gone.
+    #[tactic(auto, unfolding(rules::specs::Steps::heard))]
+    pub fn heard(self, q: Request, code: u8) -> Train
+        ensures { result ≡ heard self.around self.train q code }
+    {
+        let gone = Computer {
+            train: with_message(self.train, Message::Idle),
+            ..self
+        };
+        if code == 0 && !gives_back(q) {
+            gone.with_holding(holding_of(q))
+        } else {
+            gone.train
+        }
     }
-}
 
-// Codes 20, 16 and 19 of Enter.
-#[tactic(auto, unfolding(rules::specs::Rows::first, rules::specs::Steps::enter_rows, rules::specs::Steps::at_end))]
-pub fn enter_code(v: Around, r: Train) -> u8
-    ensures { result ≡ first (enter_rows v r) }
-{
-    if r.covered >= 2 {
-        return 20;
+    // The train has recorded it.
+    #[tactic(auto, unfolding(rules::specs::Steps::recorded))]
+    fn recorded(self, h: Holding) -> bool
+        ensures { result ≡ recorded self.around self.train h }
+    {
+        match h {
+            Holding::NextAt(b) => b == self.around.nearEnd && self.train.near
+                || b == self.around.farEnd && self.train.far,
+            Holding::LockAt(_) => self.train.lock,
+        }
     }
-    if r.length <= r.place {
-        return 16;
+
+    // The train after it has recorded it.
+    #[tactic(auto, unfolding(rules::specs::Steps::with_holding))]
+    fn with_holding(self, h: Holding) -> Train
+        ensures { result ≡ with_holding self.around self.train h }
+    {
+        match h {
+            Holding::NextAt(b) => Train {
+                near: b == self.around.nearEnd || self.train.near,
+                far: b == self.around.farEnd || self.train.far,
+                ..self.train
+            },
+            Holding::LockAt(_) => Train {
+                lock: true,
+                ..self.train
+            },
+        }
     }
-    if !(r.near && r.far && (!v.point || r.lock)) {
-        return 19;
+
+    // The train after it has dropped the record of it.
+    #[tactic(auto, unfolding(rules::specs::Steps::without_holding))]
+    fn without_holding(self, h: Holding) -> Train
+        ensures { result ≡ without_holding self.around self.train h }
+    {
+        match h {
+            Holding::NextAt(b) => Train {
+                near: b != self.around.nearEnd && self.train.near,
+                far: b != self.around.farEnd && self.train.far,
+                ..self.train
+            },
+            Holding::LockAt(_) => Train {
+                lock: false,
+                ..self.train
+            },
+        }
     }
-    0
 }

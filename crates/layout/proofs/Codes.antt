@@ -1,5 +1,5 @@
--- The codes of a table's head by the tests that lead to them, and rows of codes one after the other.
-use Prim.Native.Nat.{ℕ, ◌≤◌, ◌<◌}
+-- Rows of codes one after the other.
+use Prim.Native.Nat.{ℕ}
 use mathlib.Core.Path.{◌≡◌, refl, sym, ◌∙◌}
 use mathlib.Core.Bool.{true, false}
 use mathlib.Core.List.{List, ◌++◌}
@@ -7,44 +7,14 @@ use Rattle.rules.specs.declared.BoxPlan.{BoxPlan}
 use Rattle.rules.specs.declared.TrainPlan.{TrainPlan}
 use Rattle.rules.specs.declared.Table.{Table}
 use Rattle.rules.specs.Ends.{Refusal}
-use Rattle.rules.specs.Rows.{Row, first, outside}
+use Rattle.rules.specs.Rows.{Row, first}
 use Rattle.rules.specs.Track.{Track, track_of, way_of}
-use Rattle.rules.specs.Network.{ways_fault, head_rows, limits_fault, known_version, network_rows}
+use Rattle.rules.specs.Network.{ways_fault, head_rows, network_rows}
 use Rattle.rules.specs.Placing.{without_place, routes_fault, placing_rows, parts_code, tells_place, refusal_by, parts_refusal, table_refusal}
-use Rattle.rules.proofs.Tests.{tests, EachCode, first-before, first_hit, first_skip, first_zero_iff}
+use Rattle.rules.proofs.Tests.{EachCode, first-before, first_hit, first_skip, first_zero_iff}
 use Rattle.rules.proofs.Refusals.{placeless, refused_nowhere, refused_alike}
 
 module _ (version n m k : ℕ) where
-  -- Codes 3 and 4, each by the tests before it, and none.
-  pub head_3 : known_version version ≡ false → 3 ≡ first (head_rows version n m k)
-  unfolding head_rows
-  head_3 h = search tests
-
-  module _ (known : known_version version ≡ true) where
-    limits_4 : limits_fault n m k ≡ true → 4 ≡ first (head_rows version n m k)
-    unfolding head_rows
-    limits_4 h = search tests
-
-    pub segments_4 : outside 96 n ≡ true → 4 ≡ first (head_rows version n m k)
-    unfolding limits_fault
-    segments_4 h = limits_4 (search tests)
-
-    pub few_boxes_4 : m < 2 → 4 ≡ first (head_rows version n m k)
-    unfolding limits_fault
-    few_boxes_4 h = limits_4 (search tests)
-
-    pub many_boxes_4 : 96 < m → 4 ≡ first (head_rows version n m k)
-    unfolding limits_fault
-    many_boxes_4 h = limits_4 (search tests)
-
-    pub trains_4 : 16 < k → 4 ≡ first (head_rows version n m k)
-    unfolding limits_fault
-    trains_4 h = limits_4 (search tests)
-
-    pub head_0 : outside 96 n ≡ false → 2 ≤ m → m ≤ 96 → k ≤ 16 → 0 ≡ first (head_rows version n m k)
-    unfolding head_rows limits_fault first
-    head_0 segments low high trains = search tests
-
   module _ (track : Track) (way : ℕ → ℕ) (plans : List BoxPlan) (trains : List TrainPlan) (routes : List ℕ) where
     abbrev network_here : List Row
     network_here = network_rows n m track way plans

@@ -12,16 +12,15 @@ ghost use Rattle.rules.specs.File.{segment_size};
 use rules::{BoxPlan, Refusal, Table, TrainPlan};
 
 // The versions that are read.
+#[tactic(auto, unfolding(rules::specs::Network::known_version))]
 fn known(version: u16) -> bool
     ensures { result ≡ known_version version }
 {
-    if version == 1 {
-        return true;
-    }
-    version == 2
+    matches!(version, 1 | 2)
 }
 
 // The segments of this version have a way.
+#[tactic(auto, unfolding(rules::specs::Network::has_ways))]
 pub fn has_ways(version: u16) -> bool
     ensures { result ≡ has_ways version }
 {
@@ -29,6 +28,7 @@ pub fn has_ways(version: u16) -> bool
 }
 
 // The bytes of a segment record of this version.
+#[tactic(auto, unfolding(rules::specs::File::segment_size))]
 pub fn segment_size(version: u16) -> u8
     ensures { result ≡ segment_size version }
 {
@@ -39,43 +39,26 @@ pub fn segment_size(version: u16) -> u8
 fn some_one_way(n: u8, ways: &[u8; 256]) -> bool
     ensures { result ≡ some_one_way n (way_in ways.now) }
 {
-    let mut s: u8 = 0;
-    while s < n {
-        s += 1;
-        if ways[s as usize] != 0 {
-            return true;
-        }
-    }
-    false
+    ways[1..=usize::from(n)].iter().any(|way| *way != 0)
 }
 
 // Code 3 of a table record: some of n segments has a way that the version cannot hold.
+#[tactic(auto, unfolding(rules::specs::Network::ways_fault))]
 fn some_way_unheld(version: u16, n: u8, ways: &[u8; 256]) -> bool
     ensures { result ≡ ways_fault version n (way_in ways.now) }
 {
-    if has_ways(version) {
-        return false;
-    }
-    some_one_way(n, ways)
+    !has_ways(version) && some_one_way(n, ways)
 }
 
 // Codes 3 and 4: the version, and the numbers of segments, boxes and trains.
+#[tactic(auto, unfolding(rules::specs::Network::head_rows, rules::specs::Network::limits_fault, rules::specs::Rows::first, rules::specs::Rows::outside))]
 pub fn head_code(version: u16, n: u8, m: u8, k: u8) -> u8
     ensures { result ≡ first (head_rows version n m k) }
 {
     if !known(version) {
         return 3;
     }
-    if network::outside(96, n) {
-        return 4;
-    }
-    if m < 2 {
-        return 4;
-    }
-    if m > 96 {
-        return 4;
-    }
-    if k > 16 {
+    if !(1..=96).contains(&n) || !(2..=96).contains(&m) || k > 16 {
         return 4;
     }
     0

@@ -1,2 +1,3 @@
 -- What the conditions say in the words of the functions that test them.
+pub mod Numbered
 pub mod Routes

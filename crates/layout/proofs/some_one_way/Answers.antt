@@ -1,18 +1,13 @@
-use Rattle.rules.proofs.Tests.{tests}
-use Rattle.rules.proofs.Rows.{none_start, none_turn, none_found, none_done}
+-- Index i of the slice is segment i + 1.
+use Rattle.std.proofs.Common.{rules, tests, arith, not, eqb}
+use Rattle.std.proofs.lemmas.Iterator.{YieldsList-from_slice}
+use Rattle.std.proofs.lemmas.Grind.{common_steps}
 use Rattle.rules.specs.Network.{some_one_way}
+use Rattle.placing.proofs.Numbered.{any_numbered}
 use Rattle.layout.proofs.some_one_way.Goals as goal
-
-pub loop-s-init : goal.loop-s-init
-loop-s-init c = search none_start
-
-pub returns-then-ways-s-ne0 : goal.returns-then-ways-s-ne0
-unfolding some_one_way
-returns-then-ways-s-ne0 c = search (none_found, tests)
-
-pub loop-s-preserved : goal.loop-s-preserved
-loop-s-preserved c = search (none_turn, tests)
 
 pub returns : goal.returns
 unfolding some_one_way
-returns c = search none_done
+returns c =
+    any_numbered (λ way. not (eqb way 0)) _ _ _ _ _ 0 c.any.ensures.ran (YieldsList-from_slice _ c.iter.ensures.rest)
+    (λ x b q k. search (rules, tests)) (grind (arith, common_steps)) (λ i k. grind (arith, common_steps))

@@ -1,3 +1,3 @@
 -- What the conditions say in the words of the functions that test them.
-pub mod Numbered
+pub mod AnyOf
 pub mod Routes

@@ -1,17 +1,11 @@
 -- What the conditions on routes say, in the words of the functions that test them.
-use Prim.Native.Nat.{ℕ, zero, suc, ◌+◌, ◌-◌, ◌*◌, ◌≤◌, ◌<◌}
-use mathlib.Core.Path.{◌≡◌, refl, sym, ◌∙◌}
-use mathlib.Core.Logic.{◌≢◌}
-use mathlib.Core.Bool.{Bool, true, false, false≢true}
-use mathlib.Core.List.{List}
-use native.Mathlib.Decide.{ℕ_discrete, dec_lt}
-use native.Mathlib.Omega.{arith}
-use borrow.Author.Tests.{eq-eqb, ne_eqb}
-use lib.Dec.{eqb, ltb}
-use lib.ListN.{length, get_or, set, replicate, length-set, length-replicate, get_or-eq_default}
-use lib.Seq.{get_or-set_same, get_or-set_other}
-use Rattle.rules.proofs.Tests.{tests, answered, outside-false_iff, cond_same}
-use Rattle.rules.proofs.Rows.{any_none, any_skip, any_found, NoneYet, none_start, none_turn, none_found, none_done, nth_at, nth_past, replicate_at, route_before}
+use Rattle.std.proofs.Common.{ℕ, zero, suc, ◌+◌, ◌-◌, ◌*◌, ◌≤◌, ◌<◌, ◌≡◌, refl, sym, ◌∙◌, ◌≢◌, Bool, true, false, eqb, List, length, get_or, set, take, drop, replicate, get_or-take, get_or-drop, length-set, get_or-set_same, get_or-set_other, arith, eq-eqb, ne_eqb, lt-ltb, le-ltb}
+use Rattle.std.proofs.Math.Decide.{ℕ_discrete, dec_lt}
+use Rattle.std.proofs.lemmas.Bool.{false≢true}
+use Rattle.std.proofs.lemmas.List.{length-replicate}
+use lib.ListN.{get_or-eq_default}
+use Rattle.rules.proofs.Tests.{tests, answered}
+use Rattle.rules.proofs.Rows.{any_none, any_skip, any_found, NoneYet, none_start, none_turn, none_found, none_done, nth_at, nth_past, replicate_at, route_index, route_before}
 use Rattle.rules.proofs.RouteFault.{NoneFound, found_start, found_turn, found_here, found_done, first_same, found-tells}
 use Rattle.rules.proofs.Refusals.{code_of, refused_nowhere, refused_there}
 use Rattle.rules.specs.declared.TrainPlan.{TrainPlan}
@@ -20,11 +14,10 @@ use Rattle.rules.specs.Rows.{outside, any_of, first}
 use Rattle.rules.specs.Track.{no_train_plan, route_at, Track, runs_against, near_box, far_box, follows}
 use Rattle.rules.specs.Placing.{without_place, route_shape_fault, place_rows, route_place_fault, route_fault, start_fault, start_against_at, shape_fault_at, route_fault_at, routes_fault, placing_rows, tells_place, refusal_by}
 
--- What code 10 says of the train with index i; r is what a function answered for it, and v what a branch found.
-pub shape_answer : (trains : List TrainPlan) (i : ℕ) (r v : Bool)
-    → r ≡ route_shape_fault (get_or trains i no_train_plan).direction (get_or trains i no_train_plan).length → r ≡ v → shape_fault_at trains (i + 1) ≡ v
+-- What code 10 says of the train with index i.
+pub shape_at : (trains : List TrainPlan) (i : ℕ) → shape_fault_at trains (i + 1) ≡ route_shape_fault (get_or trains i no_train_plan).direction (get_or trains i no_train_plan).length
 unfolding shape_fault_at
-shape_answer trains i r v e f = rw nth_at (answered _ _ _ e f)
+shape_at trains i = rw nth_at
 
 -- More trains than there are places: train 17 has no plan, and reads as one with a route of length 0, which is at fault. So there
 -- are no more where no shape is at fault.
@@ -41,28 +34,26 @@ module _ (k : ℕ) (trains : List TrainPlan) (sized : length trains ≡ 16) wher
         | no l ↦ omega arith
       ]
 
--- A line has the routes of trains 1 to 16.
-pub train-none : (routes : List ℕ) (i p : ℕ) → i ≡ 0 → 0 ≡ route_at routes i p
+-- A line has 64 places of the routes of trains 1 to 16, and no segment elsewhere.
+pub route_outside : (routes : List ℕ) (i p : ℕ) → length routes ≡ 1024 → (1 ≤ i → i ≤ 16 → 1 ≤ p → p ≤ 64 → ⊥) → route_at routes i p ≡ 0
 unfolding route_at
-train-none routes i p e = rw e
-
-pub train_past : (routes : List ℕ) (i p : ℕ) → length routes ≡ 1024 → 16 < i → 0 ≡ route_at routes i p
-unfolding route_at
-train_past routes zero p e h = refl
-train_past routes (suc i) zero e h = refl
-train_past routes (suc i) (suc p) e h =
-    let none : get_or routes (64 * i + p) 0 ≡ 0 = get_or-eq_default routes 0 (omega arith) in
-    rw none (sym (cond_same (ltb p 64) 0))
-
-pub train-outside : (routes : List ℕ) (i p : ℕ) → length routes ≡ 1024 → outside 16 i ≡ true → route_at routes i p ≡ 0
-train-outside routes i p e h =
-    elim (ℕ_discrete i 0) [
-      | yes none ↦ sym (train-none routes i p none)
-      | no some ↦ elim (dec_lt 16 i) [
-        | yes past ↦ sym (train_past routes i p e past)
-        | no within ↦ absurd (false≢true (sym ((outside-false_iff 16 i).1 (omega arith, omega arith)) ∙ h))
+route_outside routes zero p e h = refl
+route_outside routes (suc i) zero e h = refl
+route_outside routes (suc i) (suc p) e h =
+    elim (dec_lt p 64) [
+      | no l ↦ rw (le-ltb p 64 (omega arith))
+      | yes l ↦ elim (dec_lt i 16) [
+        | yes k ↦ absurd (h (omega arith) (omega arith) (omega arith) (omega arith))
+        | no k ↦ rw (lt-ltb p 64 l) (get_or-eq_default routes 0 (omega arith))
       ]
     ]
+
+-- Place p + 1 of a route, read from the part of the routes that it is.
+pub route_read : (routes : List ℕ) (i a n p : ℕ) → 1 ≤ i → a ≡ 64 * (i - 1) → n ≤ 64 → p < n
+    → get_or (take (a + n - a) (drop a routes)) p 0 ≡ route_at routes i (p + 1)
+route_read routes i a n p low from high l =
+    let size : a + n - a ≡ n = omega arith in
+    rw (size, get_or-take n (drop a routes) p 0 l, get_or-drop a routes p 0) (sym (route_index routes i (p + 1) _ low (omega arith) (omega arith) (omega arith)))
 
 -- The search along a route has found nothing at its first p places, and has the segment at the last of them in hand.
 pub record Searched (n : ℕ) (track : Track) (routes : List ℕ) (i d r before p : ℕ) : Type 0 where
@@ -73,37 +64,49 @@ module _ (n : ℕ) (track : Track) (routes : List ℕ) (i d r : ℕ) where
   pub searched_start : Searched n track routes i d r 0 0
   searched_start = record { yet = found_start r _; last = sym (route_before routes i) }
 
-  module _ (before p s code : ℕ) (h : Searched n track routes i d r before p) (l : p < r) (here : s ≡ route_at routes i (p + 1))
-      (e : code ≡ first (place_rows n track d (p + 1) before s)) where
-    place_is : record { code = code; train = i; place = p + 1 } ≡ route_place_fault n track routes i d (p + 1)
+  module _ (before p s : ℕ) (h : Searched n track routes i d r before p) (l : p < r) (here : s ≡ route_at routes i (p + 1)) where
+    place_is : (code : ℕ) → code ≡ first (place_rows n track d (p + 1) before s)
+        → record { code = code; train = i; place = p + 1 } ≡ route_place_fault n track routes i d (p + 1)
     unfolding route_place_fault
-    place_is = let back : p + 1 - 1 ≡ p = omega arith in rw (back, ← h.last, ← here, e)
+    place_is code e = let back : p + 1 - 1 ≡ p = omega arith in rw (back, ← h.last, ← here, e)
 
-    pub searched_turn : code ≡ 0 → Searched n track routes i d r s (p + 1)
-    searched_turn z = record { yet = found_turn r _ p h.yet l (sym (code_of place_is) ∙ z); last = here }
-
-    pub searched_here : code ≢ 0 → record { code = code; train = i; place = p + 1 } ≡ route_fault n track routes i d r
+    searched_here : (code : ℕ) → code ≡ first (place_rows n track d (p + 1) before s) → code ≢ 0
+        → record { code = code; train = i; place = p + 1 } ≡ route_fault n track routes i d r
     unfolding route_fault
-    searched_here z = place_is ∙ found_here r _ p h.yet l (λ y. z (code_of place_is ∙ y))
+    searched_here code e z = place_is code e ∙ found_here r _ p h.yet l (λ y. z (code_of (place_is code e) ∙ y))
+
+    -- There is no such segment at the next place, or none that follows, or it is not at fault.
+    pub searched_none : outside n s ≡ true → record { code = 11; train = i; place = p + 1 } ≡ route_fault n track routes i d r
+    unfolding place_rows
+    searched_none a = searched_here 11 (search tests) (λ z. absurd (omega arith))
+
+    pub searched_jump : outside n s ≡ false → 0 < p → follows track d before s ≡ false
+        → record { code = 28; train = i; place = p + 1 } ≡ route_fault n track routes i d r
+    unfolding place_rows
+    searched_jump a b c = let more : 1 < p + 1 = omega arith in searched_here 28 (search tests depth 12) (λ z. absurd (omega arith))
+
+    pub searched_turn : outside n s ≡ false → (0 < p → follows track d before s ≡ true) → Searched n track routes i d r s (p + 1)
+    unfolding place_rows first
+    searched_turn a b =
+        let sound : 0 ≡ first (place_rows n track d (p + 1) before s) =
+        elim (dec_lt 0 p) [ yes k ↦ let c = b k in search tests depth 12 | no k ↦ let c : p + 1 ≤ 1 = omega arith in search tests depth 12 ] in
+        record { yet = found_turn r _ p h.yet l (sym (code_of (place_is 0 sound))); last = here }
 
   -- There is no segment at the next place.
   pub searched_nothing : (before p : ℕ) → Searched n track routes i d r before p → p < r → route_at routes i (p + 1) ≡ 0
       → record { code = 11; train = i; place = p + 1 } ≡ route_fault n track routes i d r
-  unfolding place_rows first outside
-  searched_nothing before p h l e = searched_here before p 0 11 h l (sym e) refl (λ z. absurd (omega arith))
+  unfolding outside
+  searched_nothing before p h l e = searched_none before p 0 h l (sym e) refl
 
-  pub searched_done : (before p : ℕ) (x : Refusal) → Searched n track routes i d r before p → r ≤ p → x ≡ without_place 0 → x ≡ route_fault n track routes i d r
+  pub searched_done : (before p : ℕ) → Searched n track routes i d r before p → r ≤ p → without_place 0 ≡ route_fault n track routes i d r
   unfolding route_fault
-  searched_done before p x h l e = e ∙ found_done r _ p h.yet l
+  searched_done before p h l = found_done r _ p h.yet l
 
 -- Codes 11 and 28 in a direction are those in direction 0 on the track with the near ends for A ends and the far ends for B ends.
 abbrev turned : Track → Track
 turned track = record { end_a = track.end_b; end_b = track.end_a }
 
 module _ (n : ℕ) (track : Track) (routes : List ℕ) (i d r : ℕ) where
-  pub route_forth : d ≡ 0 → route_fault n track routes i 0 r ≡ route_fault n track routes i d r
-  route_forth e = rw e
-
   place_back : (d ≡ 0 → ⊥) → (p : ℕ) → route_place_fault n (turned track) routes i 0 p ≡ route_place_fault n track routes i d p
   unfolding route_place_fault place_rows follows far_box near_box
   place_back e p = rw (ne_eqb d 0 e)
@@ -112,25 +115,25 @@ module _ (n : ℕ) (track : Track) (routes : List ℕ) (i d r : ℕ) where
   unfolding route_fault
   route_back e = first_same _ _ r λ p l h. place_back e p
 
--- The search through the routes of all trains: r is what a function answered for the route of the train with index i.
-module _ (n : ℕ) (track : Track) (trains : List TrainPlan) (routes : List ℕ) (k i : ℕ) (r : Refusal)
-    (yet : NoneFound k (route_fault_at n track trains routes) i) (l : i < k)
-    (e : r ≡ route_fault n track routes (i + 1) (get_or trains i no_train_plan).direction (get_or trains i no_train_plan).length) where
-  route_answer : r ≡ route_fault_at n track trains routes (i + 1)
+-- The search through the routes of all trains: x is why the route of the train with index i, by its plan p, is refused.
+module _ (n : ℕ) (track : Track) (trains : List TrainPlan) (routes : List ℕ) (k i : ℕ) (p : TrainPlan) (x : Refusal)
+    (yet : NoneFound k (route_fault_at n track trains routes) i) (l : i < k) (at : p ≡ get_or trains i no_train_plan)
+    (e : x ≡ route_fault n track routes (i + 1) p.direction p.length) where
+  route_answer : x ≡ route_fault_at n track trains routes (i + 1)
   unfolding route_fault_at
-  route_answer = rw nth_at e
+  route_answer = rw (nth_at, ← at) e
 
-  pub routes_turn : r.code ≡ 0 → NoneFound k (route_fault_at n track trains routes) (i + 1)
+  pub routes_turn : x.code ≡ 0 → NoneFound k (route_fault_at n track trains routes) (i + 1)
   routes_turn z = found_turn k _ i yet l (code_of (sym route_answer) ∙ z)
 
-  pub routes_here : r.code ≢ 0 → r ≡ routes_fault n k track trains routes
+  pub routes_here : x.code ≢ 0 → x ≡ routes_fault n k track trains routes
   unfolding routes_fault
   routes_here z = route_answer ∙ found_here k _ i yet l (λ y. z (code_of route_answer ∙ y))
 
-pub routes_done : (n : ℕ) (track : Track) (trains : List TrainPlan) (routes : List ℕ) (k i : ℕ) (r : Refusal)
-    → NoneFound k (route_fault_at n track trains routes) i → k ≤ i → r ≡ without_place 0 → r ≡ routes_fault n k track trains routes
+pub routes_done : (n : ℕ) (track : Track) (trains : List TrainPlan) (routes : List ℕ) (k i : ℕ)
+    → NoneFound k (route_fault_at n track trains routes) i → k ≤ i → without_place 0 ≡ routes_fault n k track trains routes
 unfolding routes_fault
-routes_done n track trains routes k i r yet l e = e ∙ found_done k _ i yet l
+routes_done n track trains routes k i yet l = found_done k _ i yet l
 
 -- Code 12: a search through k trains that has found nothing among the first i, and has marked the segments with which they begin.
 pub record Begun (routes : List ℕ) (k i : ℕ) (begun : List Bool) : Type 0 where
@@ -178,46 +181,43 @@ module _ (routes : List ℕ) (k i x : ℕ) (begun : List Bool) (h : Begun routes
 pub begun_done : (routes : List ℕ) (k i : ℕ) (begun : List Bool) → Begun routes k i begun → k ≤ i → false ≡ any_of k (start_fault routes)
 begun_done routes k i begun h l = none_done k _ i h.yet l
 
--- What code 32 says of the train with index i, which begins with segment s; r is what a function answered for it, and v what a branch
--- found.
-pub against_answer : (way : ℕ → ℕ) (trains : List TrainPlan) (routes : List ℕ) (i s : ℕ) (r v : Bool) → s ≡ route_at routes (i + 1) 1
-    → r ≡ runs_against (get_or trains i no_train_plan).direction (way s) → r ≡ v → start_against_at way trains routes (i + 1) ≡ v
+-- What code 32 says of the train with index i, by its direction d and the segment s with which it begins; z is what a function answered
+-- for it, and v what a branch found.
+pub against_at : (way : ℕ → ℕ) (trains : List TrainPlan) (routes : List ℕ) (i d s : ℕ) (z v : Bool) → d ≡ (get_or trains i no_train_plan).direction
+    → s ≡ route_at routes (i + 1) 1 → z ≡ runs_against d (way s) → z ≡ v → start_against_at way trains routes (i + 1) ≡ v
 unfolding start_against_at
-against_answer way trains routes i s r v first e f = rw (nth_at, ← first) (answered _ _ _ e f)
+against_at way trains routes i d s z v at first e f = rw (nth_at, ← at, ← first) (answered _ _ _ e f)
 
--- Why a table with these trains is refused, by the tests that led there; x is what a function answered.
-module _ (n k : ℕ) (track : Track) (way : ℕ → ℕ) (trains : List TrainPlan) (routes : List ℕ) (x : Refusal) where
-  abbrev Refused : Type 0
-  Refused = x ≡ refusal_by (first (placing_rows n k track way trains routes)) (routes_fault n k track trains routes)
+-- Why a table with these trains is refused, by the tests that led there; x is why a route is.
+module _ (n k : ℕ) (track : Track) (way : ℕ → ℕ) (trains : List TrainPlan) (routes : List ℕ) where
+  abbrev RefusedBy : Refusal → Type 0
+  RefusedBy x = x ≡ refusal_by (first (placing_rows n k track way trains routes)) (routes_fault n k track trains routes)
 
-  pub refused_10 : x ≡ without_place 10 → any_of k (shape_fault_at trains) ≡ true → Refused
+  pub refused_10 : any_of k (shape_fault_at trains) ≡ true → RefusedBy (without_place 10)
   unfolding placing_rows tells_place
-  refused_10 e shape = refused_nowhere _ _ x 10 e refl (search tests)
+  refused_10 shape = refused_nowhere _ _ _ 10 refl refl (search tests)
 
-  module _ (y : Refusal) (e : y ≡ routes_fault n k track trains routes) (shape : any_of k (shape_fault_at trains) ≡ false) where
-    found-code : y.code ≡ (routes_fault n k track trains routes).code
-    found-code = code_of e
-
-    pub refused_found : x ≡ y → y.code ≢ 0 → Refused
+  module _ (x : Refusal) (e : x ≡ routes_fault n k track trains routes) (shape : any_of k (shape_fault_at trains) ≡ false) where
+    pub refused_found : x.code ≢ 0 → RefusedBy x
     unfolding placing_rows
-    refused_found is some =
+    refused_found some =
         let fault = routes_fault n k track trains routes in
-        let other : fault.code ≢ 0 = λ z. some (found-code ∙ z) in
-        refused_there _ fault x (is ∙ e) (found-tells n k track trains routes other) (search tests)
+        let other : fault.code ≢ 0 = λ z. some (code_of e ∙ z) in
+        refused_there _ fault x e (found-tells n k track trains routes other) (search tests)
 
-    module _ (none : y.code ≡ 0) where
+    module _ (none : x.code ≡ 0) where
       sound : (routes_fault n k track trains routes).code ≡ 0
-      sound = sym found-code ∙ none
+      sound = sym (code_of e) ∙ none
 
-      pub refused_12 : x ≡ without_place 12 → any_of k (start_fault routes) ≡ true → Refused
+      pub refused_12 : any_of k (start_fault routes) ≡ true → RefusedBy (without_place 12)
       unfolding placing_rows tells_place
-      refused_12 is start = refused_nowhere _ _ x 12 is refl (rw sound (search tests))
+      refused_12 start = refused_nowhere _ _ _ 12 refl refl (rw sound (search tests))
 
       module _ (start : any_of k (start_fault routes) ≡ false) where
-        pub refused_32 : x ≡ without_place 32 → any_of k (start_against_at way trains routes) ≡ true → Refused
+        pub refused_32 : any_of k (start_against_at way trains routes) ≡ true → RefusedBy (without_place 32)
         unfolding placing_rows tells_place
-        refused_32 is against = refused_nowhere _ _ x 32 is refl (rw sound (search tests))
+        refused_32 against = refused_nowhere _ _ _ 32 refl refl (rw sound (search tests))
 
-        pub refused_0 : x ≡ without_place 0 → any_of k (start_against_at way trains routes) ≡ false → Refused
+        pub refused_0 : any_of k (start_against_at way trains routes) ≡ false → RefusedBy (without_place 0)
         unfolding placing_rows tells_place first
-        refused_0 is along = refused_nowhere _ _ x 0 is refl (rw sound (search tests))
+        refused_0 along = refused_nowhere _ _ _ 0 refl refl (rw sound (search tests))

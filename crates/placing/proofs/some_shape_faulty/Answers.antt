@@ -1,19 +1,16 @@
-use borrow.Author.Rules.{rules}
-use Rattle.rules.proofs.Rows.{length_mapped, none_start, none_turn, none_found, none_done}
-use Rattle.placing.proofs.Routes.{shape_answer, many_trains}
+use Rattle.std.proofs.Common.{rules, tests, arith, lt-ltb, ◌∙◌}
+use Rattle.std.proofs.lemmas.Iterator.{YieldsList-from_slice}
+use Rattle.std.proofs.lemmas.Grind.{common_steps}
+use Rattle.rules.specs.Track.{no_train_plan}
+use Rattle.rules.specs.Placing.{route_shape_fault}
+use Rattle.placing.proofs.AnyOf.{any_numbered}
+use Rattle.placing.proofs.Routes.{many_trains, shape_at}
 use Rattle.placing.proofs.some_shape_faulty.Goals as goal
 
 pub returns-then-k-gt16 : goal.returns-then-k-gt16
-returns-then-k-gt16 c = many_trains _ _ (search (rules, length_mapped)) c.if-k-gt16.true
+returns-then-k-gt16 c = lt-ltb _ _ c.if-k-gt16.true ∙ many_trains _ _ c.requires c.if-k-gt16.true
 
-pub loop-i-init : goal.loop-i-init
-loop-i-init c = search none_start
-
-pub returns-then-shape_faulty : goal.returns-then-shape_faulty
-returns-then-shape_faulty c = search (none_found, shape_answer)
-
-pub loop-i-preserved : goal.loop-i-preserved
-loop-i-preserved c = search (none_turn, shape_answer)
-
-pub returns : goal.returns
-returns c = search none_done
+pub returns-else-k-gt16 : goal.returns-else-k-gt16
+returns-else-k-gt16 c =
+    any_numbered (λ p. route_shape_fault p.direction p.length) _ _ _ _ _ no_train_plan c.any.ensures.ran (YieldsList-from_slice _ c.iter.ensures.rest)
+    (λ x b q k. search (rules, tests)) (grind (arith, common_steps)) (λ i k. grind (arith, common_steps, shape_at))

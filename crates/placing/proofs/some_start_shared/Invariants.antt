@@ -1,10 +1,6 @@
 -- The loop has found nothing among the trains before, and has marked their first segments.
-use Prim.Native.Nat.{◌-◌}
 use Rattle.placing.proofs.Routes.{Begun}
 use Rattle.placing.proofs.some_start_shared.Given as goal
 
-abbrev pub invariant-loop-number : goal.invariant-loop-number
-invariant-loop-number l = Begun l.routes l.k l.number l.begun
-
-abbrev pub decreases-loop-number : goal.decreases-loop-number
-decreases-loop-number l = l.k - l.number
+abbrev pub invariant-loop-i : goal.invariant-loop-i
+invariant-loop-i l = Begun l.routes l.k l.i l.begun

@@ -46,21 +46,15 @@ impl Columns {
     pub fn far(&self, d: u8, s: u8) -> u8
         ensures { result ≡ far_box (track_in self.now.a self.now.b) d s }
     {
-        if d == 0 {
-            self.b[s as usize]
-        } else {
-            self.a[s as usize]
-        }
+        let ends = if d == 0 { &self.b } else { &self.a };
+        ends[s as usize]
     }
 
     // The box at its near end.
     pub fn near(&self, d: u8, s: u8) -> u8
         ensures { result ≡ near_box (track_in self.now.a self.now.b) d s }
     {
-        if d == 0 {
-            self.a[s as usize]
-        } else {
-            self.b[s as usize]
-        }
+        let ends = if d == 0 { &self.a } else { &self.b };
+        ends[s as usize]
     }
 }

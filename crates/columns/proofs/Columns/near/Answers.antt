@@ -1,11 +1,12 @@
-use Rattle.rules.proofs.Tests.{tests}
 use Rattle.rules.specs.Track.{near_box}
+use Rattle.rules.proofs.Tests.{tests}
 use Rattle.columns.proofs.Columns.near.Goals as goal
+use Rattle.columns.proofs.Columns.near.Goals.{then-d-eq0, else-d-eq0}
 
-pub returns-then-d-eq0 : goal.returns-then-d-eq0
+pub returns : goal.returns
 unfolding near_box
-returns-then-d-eq0 c = search tests
-
-pub returns-else-d-eq0 : goal.returns-else-d-eq0
-unfolding near_box
-returns-else-d-eq0 c = search tests
+returns c =
+    elim c.if-d-eq0.branch [
+      | then-d-eq0 w ↦ let d = w.if-d-eq0.true in rw w.ends-is (search tests)
+      | else-d-eq0 w ↦ let d = w.if-d-eq0.false in rw w.ends-is (search tests)
+    ]

@@ -153,7 +153,7 @@ enough file input low =
     rw (file_enough file low, input_enough most_steps most_input _ input room)
 
 -- Buffers of this length are long enough for every input, and the text stands at the front of its buffer.
-room_enough : (input answers text : List ℕ) → most_steps ≤ length answers → most_text ≤ length text → print_code input answers text ≡ 0
+pub room_enough : (input answers text : List ℕ) → most_steps ≤ length answers → most_text ≤ length text → print_code input answers text ≡ 0
 unfolding print_code text_room taken_of step_count
 room_enough input answers text a t =
     let taken : (length (take (3 * most_steps) input) + 2) / 3 ≤ most_steps = simp length-take (omega arith) in

@@ -1,5 +1,5 @@
--- What stands in a column.
-pub mod Column
+-- What `any` answers over the numbers 1 to n.
+pub mod Any
 -- What the conditions say in the words of the functions that test them.
 pub mod Laws
 pub mod Codes
@@ -8,5 +8,3 @@ pub mod Sides
 -- Sums, and code 8 by how many segments the boxes list.
 pub mod Sums
 pub mod Listed
--- The columns of a table are its track.
-pub mod Tracks

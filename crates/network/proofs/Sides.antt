@@ -15,7 +15,7 @@ use Rattle.rules.specs.Rows.{any_of, nth, list_of, filled}
 use Rattle.rules.specs.Track.{Track, no_box_plan}
 use Rattle.rules.specs.Network.{ends_fault, place_fault, plan_fault, has_end_a, has_end_b, listed_fault, side_fault, box_fault, plan_fault_at, box_fault_at}
 use Rattle.rules.specs.StemSide.{is_side, stem_side, stem_side_at}
-use Rattle.rules.proofs.Tests.{facts, answered, outside-false_iff}
+use Rattle.rules.proofs.Tests.{facts, outside-false_iff}
 use Rattle.rules.proofs.StemSides.{one_end}
 use Rattle.rules.proofs.Rows.{any_false_at, any_same, nth_at, filled_record}
 use Rattle.network.specs.Sided.{branch_away, some_branch_away, sided_fault, sided_fault_at}
@@ -106,13 +106,13 @@ module _ (n m : ℕ) (track : Track) (none : any_of n (ends_fault m track) ≡ f
       rw (kept, filled_record (stem_side_at track plans) Neither 96 m b few l h)
       (box_by_side b (nth plans b no_box_plan) (any_false_at (plan_fault_at n plans) m b fine l h))
 
--- The box at index i is that of number i + 1: its side by its plan, and what was found at it.
+-- The box at index i is that of number i + 1: its side by its plan, and what is found at it.
 module _ (track : Track) (plans : List BoxPlan) (i : ℕ) where
   pub side_at : (x : StemSide) → x ≡ stem_side track (i + 1) (get_or plans i no_box_plan).stem → x ≡ stem_side_at track plans (i + 1)
   unfolding stem_side_at
   side_at x e = rw nth_at e
 
-  pub sided_answer : (sides : List StemSide) (r v : Bool)
-      → r ≡ sided_fault track (i + 1) (get_or plans i no_box_plan) (get_or sides i Neither) → r ≡ v → sided_fault_at track plans sides (i + 1) ≡ v
+  pub sided_at : (sides : List StemSide) (r : Bool)
+      → r ≡ sided_fault track (i + 1) (get_or plans i no_box_plan) (get_or sides i Neither) → r ≡ sided_fault_at track plans sides (i + 1)
   unfolding sided_fault_at
-  sided_answer sides r v e f = simp nth_at (answered _ _ _ e f)
+  sided_at sides r e = simp nth_at e

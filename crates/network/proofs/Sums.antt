@@ -1,26 +1,20 @@
 -- Laws of sums.
-use Prim.Native.Nat.{ℕ, zero, suc, ◌+◌, ◌≤◌}
-use mathlib.Core.Path.{◌≡◌, refl, sym}
-use mathlib.Core.Logic.{◌≢◌}
-use mathlib.Core.List.{List}
-use native.Mathlib.Decide.{ℕ_discrete}
-use native.Mathlib.Numerals.{add-one}
-use native.Mathlib.Omega.{arith}
-use lib.ListN.{get_or}
+use Rattle.std.proofs.Common.{◌≡◌, ◌≢◌, ℕ, zero, suc, ◌+◌, ◌≤◌, List, length, get_or, take, sum_by, refl, sym, ap, ◌∙◌, add-one, arith}
+use Rattle.std.proofs.Math.Decide.{ℕ_discrete}
+use Rattle.std.proofs.lemmas.List.Sums.{sum_by_more}
 use Rattle.rules.specs.declared.BoxPlan.{BoxPlan}
 use Rattle.rules.specs.Rows.{nth}
 use Rattle.rules.specs.Track.{no_box_plan}
 use Rattle.network.specs.Places.{sum_of, place_count}
 
--- The places of no box, and of the box at index i too.
-pub places-none : (plans : List BoxPlan) → place_count 0 plans ≡ 0
-unfolding place_count sum_of
-places-none plans = refl
-
-pub places-more : (plans : List BoxPlan) (i c : ℕ) → c ≡ place_count i plans
-    → c + ((get_or plans i no_box_plan).kind + 1) ≡ place_count (i + 1) plans
+-- The places of boxes 1 .. m, by the first m plans.
+pub places_taken : (plans : List BoxPlan) (m : ℕ) → m ≤ length plans → sum_by (λ p. p.kind + 1) (take m plans) ≡ place_count m plans
 unfolding place_count sum_of nth
-places-more plans i c e = rw (add-one i, e)
+places_taken plans zero h = refl
+places_taken plans (suc m) h =
+    ap (λ k. sum_by (λ p. p.kind + 1) (take k plans)) (sym (add-one m))
+    ∙ sum_by_more (λ p. p.kind + 1) plans m no_box_plan (omega arith)
+    ∙ ap (λ k. k + ((get_or plans m no_box_plan).kind + 1)) (places_taken plans m (omega arith))
 
 -- Summands that are the same.
 pub sum_same : (f g : ℕ → ℕ) (n : ℕ) → ((i : ℕ) → 1 ≤ i → i ≤ n → f i ≡ g i) → sum_of n f ≡ sum_of n g

@@ -1,5 +1,3 @@
--- The columns that `far_boxes` makes.
-pub mod Column
 -- What the functions behind code 8 test: a box by its stem side, and how many segments the boxes list. All else is stated by the
 -- definitions of `rules`.
 pub mod Sided

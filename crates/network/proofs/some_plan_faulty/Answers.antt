@@ -1,19 +1,17 @@
-use borrow.Author.Rules.{rules}
-use Rattle.rules.proofs.Rows.{length_mapped, none_start, none_turn, none_found, none_done}
-use Rattle.network.proofs.Laws.{plan_answer, many_boxes}
+use Rattle.std.proofs.Common.{◌∙◌, take, arith, rules, tests}
+use Rattle.std.proofs.lemmas.Grind.{common_steps}
+use Rattle.std.proofs.lemmas.Iterator.{YieldsList-from_slice}
+use Rattle.std.proofs.lemmas.Iterator.Search.{any_from_yields_List}
+use Rattle.rules.specs.Track.{no_box_plan}
+use Rattle.rules.specs.Network.{plan_fault, plan_fault_at}
+use Rattle.network.proofs.Any.{any_listed}
+use Rattle.network.proofs.Laws.{plan_at, many_boxes}
 use Rattle.network.proofs.some_plan_faulty.Goals as goal
 
-pub returns-then-m-gt96 : goal.returns-then-m-gt96
-returns-then-m-gt96 c = many_boxes _ _ _ (search (rules, length_mapped)) c.if-m-gt96.true
+pub returns-in_default-clause-value : goal.returns-in_default-clause-value
+returns-in_default-clause-value c = search (rules, many_boxes)
 
-pub loop-i-init : goal.loop-i-init
-loop-i-init c = search none_start
-
-pub returns-then-plan_faulty : goal.returns-then-plan_faulty
-returns-then-plan_faulty c = search (none_found, plan_answer)
-
-pub loop-i-preserved : goal.loop-i-preserved
-loop-i-preserved c = search (none_turn, plan_answer)
-
-pub returns : goal.returns
-returns c = search none_done
+pub returns-clause-value : goal.returns-clause-value
+returns-clause-value c =
+    any_from_yields_List (plan_fault c.args.n) _ _ _ c.any.ensures.ran (YieldsList-from_slice (take c.args.m c.args.plans.now) (grind (arith, common_steps))) (λ x b q k. search (rules, tests))
+    ∙ any_listed (plan_fault c.args.n) c.args.plans.now no_box_plan (plan_fault_at c.args.n c.args.plans.now) c.args.m (search rules) (λ i h. plan_at c.args.n c.args.plans.now i)

@@ -63,9 +63,7 @@ pub fn answer(c: Computer, p: BoxPlan, x: SwitchBox) -> Result<Changed, StepErro
 {
     match c.train.message {
         Message::Sent(q) => Ok(reply(c, p, x, q)),
-        Message::Idle | Message::Answered(_, _) | Message::Lost(_) => Err(
-            StepError::NothingUnderWay,
-        ),
+        Message::Idle | Message::Answered(..) | Message::Lost(_) => Err(StepError::NothingUnderWay),
     }
 }
 

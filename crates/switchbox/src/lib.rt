@@ -2,7 +2,7 @@
 // after a train.
 #![tactic(auto)]
 
-ghost use Rattle.std.specs.Prelude.{◌≡◌, ℕ, cond, eqb};
+ghost use Rattle.std.specs.Prelude.{◌≡◌, ℕ, eqb};
 ghost use Rattle.rules.specs.Rows.{first};
 ghost use Rattle.rules.specs.Track.{joins};
 ghost use Rattle.rules.specs.declared.Holding.TheVariants.{NextAt, LockAt};
@@ -40,10 +40,10 @@ impl AtBox {
         ensures { result ≡ granted self.around self.plan self.state q }
     {
         let about = holding_of(q);
-        if gives_back(q) {
-            self.taken_back(about)
-        } else {
-            self.made_own(about)
+        match (gives_back(q), self.stands(about)) {
+            (false, false) => self.given(about),
+            (true, true) => self.freed(about),
+            _ => self.state,
         }
     }
 
@@ -168,28 +168,6 @@ impl AtBox {
                 lock: 0,
                 ..self.state
             },
-        }
-    }
-
-    // The box once it is free, if it was the train's.
-    fn taken_back(self, h: Holding) -> SwitchBox
-        ensures { result ≡ cond (stands self.around self.plan self.state h) (freed self.around self.plan self.state h) self.state }
-    {
-        if self.stands(h) {
-            self.freed(h)
-        } else {
-            self.state
-        }
-    }
-
-    // The box once it is the train's: as it was, if it was so already.
-    fn made_own(self, h: Holding) -> SwitchBox
-        ensures { result ≡ cond (stands self.around self.plan self.state h) self.state (given self.around self.plan self.state h) }
-    {
-        if self.stands(h) {
-            self.state
-        } else {
-            self.given(h)
         }
     }
 }

@@ -68,3 +68,5 @@ module _ (n m : ℕ) (track : Track) (way : ℕ → ℕ) (plans : List BoxPlan) 
 
           pub network_0 : has_loop n track ≡ false → Code 0
           network_0 e = past_8 0 (first_skip _ _ _ e (sym first-none))
+
+pub ruleset codes = (network_6, network_7, listing_8, unlisted_8, network_9, network_0)

@@ -94,9 +94,11 @@ fn some_plan_faulty(n: u8, m: u8, plans: &[BoxPlan; 96]) -> bool
 }
 
 // Codes 6 to 9 of a table with these columns.
-#[tactic(auto, using(crate::proofs::Codes::network_6, crate::proofs::Codes::network_7, crate::proofs::Codes::listing_8, crate::proofs::Codes::unlisted_8, crate::proofs::Codes::network_9, crate::proofs::Codes::network_0))]
+#[tactic(auto, using(crate::proofs::Codes::codes))]
 pub fn check_network(table: &Table, columns: &Columns) -> Result<(), FileError>
-    ensures { let track = track_in columns.now.a columns.now.b in let rows = network_rows table.now.n table.now.m track (way_in columns.now.ways) table.now.boxes in refused result ≡ without_place (first rows) }
+    ensures { let t = table.now in
+        let track = track_in columns.now.a columns.now.b in
+        refused result ≡ without_place (first (network_rows t.n t.m track (way_in columns.now.ways) t.boxes)) }
 {
     let n = table.n;
     let m = table.m;

@@ -7,40 +7,20 @@ ghost use Rattle.traincomputer.specs.Sight.{around_in};
 use rules::{Message, Request, Train};
 use traincomputer::sight;
 
-// A no to a reservation.
-fn denies_reservation(code: u8) -> bool
-    ensures { result ≡ (eqb code 22 || eqb code 31) }
-{
-    if code == 22 {
-        return true;
-    }
-    code == 31
-}
-
 // A code that a box can give in answer to a request.
+#[tactic(auto, unfolding(rules::specs::Record::answer_code))]
 fn answer_code(q: Request, code: u8) -> bool
     ensures { result ≡ answer_code q code }
 {
-    if code == 0 {
-        return true;
-    }
     match q {
-        Request::Reserve(_) => denies_reservation(code),
-        Request::Lock(_) => {
-            if code == 23 {
-                return true;
-            }
-            if code == 24 {
-                return true;
-            }
-            code == 25
-        }
-        Request::GiveBack(_) => false,
-        Request::Unlock(_) => false,
+        Request::Reserve(_) => matches!(code, 0 | 22 | 31),
+        Request::Lock(_) => matches!(code, 0 | 23 | 24 | 25),
+        Request::GiveBack(_) | Request::Unlock(_) => code == 0,
     }
 }
 
 // A request of the train with this number and record that 16 or 17 would stop.
+#[tactic(auto, unfolding(rules::specs::Record::address_fault))]
 fn address_faulty(
     number: u8,
     r: Train,
@@ -58,6 +38,7 @@ fn address_faulty(
 }
 
 // Code 27 on a train's message.
+#[tactic(auto, unfolding(rules::specs::Record::message_fault))]
 fn message_faulty(
     number: u8,
     r: Train,
@@ -69,22 +50,20 @@ fn message_faulty(
 ) -> bool
     ensures { result ≡ message_fault (around_in a.now b.now ways.now kinds.now routes.now number r) r r.message }
 {
-    let message = r.message;
-    match message {
+    match r.message {
         Message::Idle => false,
-        Message::Sent(q) => address_faulty(number, r, q, routes, a, b, ways, kinds),
-        Message::Answered(q, code) => {
-            if address_faulty(number, r, q, routes, a, b, ways, kinds) {
-                return true;
-            }
-            !answer_code(q, code)
+        Message::Sent(q) | Message::Lost(q) => {
+            address_faulty(number, r, q, routes, a, b, ways, kinds)
         }
-        Message::Lost(q) => address_faulty(number, r, q, routes, a, b, ways, kinds),
+        Message::Answered(q, code) => {
+            address_faulty(number, r, q, routes, a, b, ways, kinds) || !answer_code(q, code)
+        }
     }
 }
 
 // Code 27 at the train with this number and record, by the routes as they stand, the boxes at the A ends and at the B ends of
 // segments, their ways and the kinds of boxes. There are n segments.
+#[tactic(auto, unfolding(rules::specs::Record::train_fault))]
 fn train_faulty(
     number: u8,
     r: Train,
@@ -97,29 +76,12 @@ fn train_faulty(
 ) -> bool
     ensures { result ≡ train_fault n (track_in a.now b.now) (way_in ways.now) (point_in kinds.now) routes.now number r }
 {
-    if placing::shape_faulty(r.direction, r.length) {
-        return true;
-    }
-    let fault = placing::route_fault(routes, number, r.direction, r.length, n, a, b);
-    if fault.code != 0 {
-        return true;
-    }
-    if r.place == 0 {
-        return true;
-    }
-    if r.place > r.length {
-        return true;
-    }
-    if r.covered > r.place {
-        return true;
-    }
-    if r.covered == 0 {
-        return true;
-    }
-    if r.covered > 2 {
-        return true;
-    }
-    message_faulty(number, r, routes, a, b, ways, kinds)
+    placing::shape_faulty(r.direction, r.length)
+        || placing::route_fault(routes, number, r.direction, r.length, n, a, b).code != 0
+        || !(1..=r.length).contains(&r.place)
+        || r.covered > r.place
+        || !(1..=2).contains(&r.covered)
+        || message_faulty(number, r, routes, a, b, ways, kinds)
 }
 
 // Code 27 at trains 1 to k, by their records, the routes as they stand, the boxes at the A ends and at the B ends of segments, their ways
@@ -137,17 +99,8 @@ pub fn some_train_faulty(
     ensures { result ≡ trains_fault n k (track_in a.now b.now) (way_in ways.now) (point_in kinds.now) routes.now trains }
 {
     // Train 17 has no record: it reads as one with a route of length 0, which is at fault.
-    if k > 16 {
-        return true;
-    }
-    let mut number: u8 = 0;
-    while number < k {
-        let i = number as usize;
-        number += 1;
-        let r = trains[i];
-        if train_faulty(number, r, n, routes, a, b, ways, kinds) {
-            return true;
-        }
-    }
-    false
+    k > 16
+        || (1..=k).zip(&trains).any(|(number, r)| train_faulty(
+            number, *r, n, routes, a, b, ways, kinds,
+        ))
 }

@@ -1,26 +1,27 @@
-use native.Mathlib.Omega.{arith}
-use borrow.Author.Tests.{lt-ltb, le-ltb}
-use Rattle.rules.specs.Record.{switch_boxes_fault}
-use Rattle.rules.proofs.Tests.{is_true, or_left, or-last}
-use Rattle.rules.proofs.Rows.{none_start, none_turn, none_found, none_done}
-use Rattle.checking.proofs.Laws.{box-answer}
+-- The chain goes through the pairs of a plan and a record of the first m boxes.
+use Rattle.std.proofs.Common.{◌≡◌, take, get_or-take, length-take-le, ◌∙◌, refl, rules, tests, arith, length, le-ltb}
+use Rattle.std.proofs.lemmas.Iterator.{YieldsList-from_slice, YieldsList-from_take, YieldsList-from_zip}
+use Rattle.std.proofs.lemmas.Iterator.Consumers.{YieldsList-at}
+use Rattle.std.proofs.lemmas.Iterator.Search.{any_from_yields_List}
+use Rattle.rules.specs.declared.BoxPlan.{BoxPlan}
+use Rattle.rules.specs.declared.SwitchBox.{SwitchBox}
+use Rattle.rules.specs.Track.{no_box_plan}
+use Rattle.rules.specs.Line.{no_box}
+use Rattle.rules.specs.Record.{switch_box_fault, switch_boxes_fault}
+use Rattle.rules.proofs.Tests.{or-last}
+use Rattle.rules.proofs.Rows.{nth_at}
+use Rattle.checking.proofs.Laws.{any_pair}
 use Rattle.checking.proofs.boxes.some_box_record_faulty.Goals as goal
 
-pub returns-then-m-gt96 : goal.returns-then-m-gt96
-returns-then-m-gt96 c = is_true _ (or_left _ _ (lt-ltb _ _ c.if-m-gt96.true))
-
-pub loop-i-init : goal.loop-i-init
-loop-i-init c = none_start _ _
-
-pub returns-then-box_record_faulty : goal.returns-then-box_record_faulty
+pub returns-else-m-gt96 : goal.returns-else-m-gt96
 unfolding switch_boxes_fault
-returns-then-box_record_faulty c =
-    or-last _ _ _ (le-ltb _ _ c.if-m-gt96.false) (none_found _ _ c.loop-i.i (omega arith) (box-answer _ _ _ _ _ _ c.box_record_faulty.ensures c.if-box_record_faulty.true))
-
-pub loop-i-preserved : goal.loop-i-preserved
-loop-i-preserved c =
-    none_turn _ _ c.loop-i.i c.loop-i.invariant (omega arith) (box-answer _ _ _ _ _ _ c.box_record_faulty.ensures c.if-box_record_faulty.false)
-
-pub returns : goal.returns
-unfolding switch_boxes_fault
-returns c = or-last _ _ _ (le-ltb _ _ c.if-m-gt96.false) (none_done _ _ c.loop-i.i c.loop-i.invariant (omega arith))
+returns-else-m-gt96 c =
+    let args = c.args in
+    let plans : length args.plans ≡ 96 = search rules in
+    let boxes : length args.boxes ≡ 96 = search rules in
+    let firsts = YieldsList-from_take {s = c.take.result} args.m (YieldsList-at c.take.ensures.source (YieldsList-from_slice args.plans cc)) c.take.ensures.count in
+    let pairs = YieldsList-from_zip {s = c.zip.result} (YieldsList-at c.zip.ensures.first firsts) (YieldsList-from_slice args.boxes cc) in
+    let told = any_from_yields_List (λ (p : BoxPlan × SwitchBox). switch_box_fault args.k p.0 p.1) c.any.new.self _ c.any.result c.any.ensures.ran pairs (λ x b q k. search (rules, tests)) in
+    or-last _ _ _ (le-ltb _ _ c.if-m-gt96.false)
+    (told ∙ any_pair _ _ (take args.m args.plans) args.boxes no_box_plan no_box args.m (length-take-le args.m args.plans (omega arith)) (omega arith)
+    (λ i h. rw (nth_at args.plans, nth_at args.boxes, get_or-take args.m args.plans i no_box_plan h)))

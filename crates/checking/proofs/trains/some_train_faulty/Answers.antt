@@ -1,23 +1,28 @@
-use borrow.Author.Rules.{rules}
-use Rattle.rules.specs.Record.{trains_fault}
-use Rattle.rules.proofs.Rows.{length_mapped, none_start, none_turn, none_found, none_done}
-use Rattle.checking.proofs.Laws.{train-answer, many_trains}
+-- Past train 16 there is no record; up to it the chain goes through the pairs of a number and a record.
+use Rattle.std.proofs.Common.{◌≡◌, ◌∙◌, ℕ, Bool, length, rules, tests, arith, add_comm, lt-ltb}
+use Rattle.std.specs.List.{range_with_len}
+use Rattle.std.proofs.lemmas.List.FromFn.{length-range_with_len, get_or-range_with_len}
+use Rattle.std.proofs.lemmas.Iterator.{YieldsList-from_slice, YieldsList-from_zip}
+use Rattle.std.proofs.lemmas.Iterator.Consumers.{YieldsList-at}
+use Rattle.std.proofs.lemmas.Iterator.Search.{any_from_yields_List}
+use Rattle.rules.specs.declared.Train.{Train}
+use Rattle.rules.specs.Track.{track_in, way_in, point_in}
+use Rattle.rules.specs.Line.{no_train}
+use Rattle.rules.specs.Record.{train_fault, trains_fault}
+use Rattle.rules.proofs.Rows.{nth_at}
+use Rattle.checking.proofs.Laws.{many_trains, any_pair, YieldsList-from_inclusive}
 use Rattle.checking.proofs.trains.some_train_faulty.Goals as goal
 
 pub returns-then-k-gt16 : goal.returns-then-k-gt16
-returns-then-k-gt16 c = many_trains _ _ _ _ _ _ _ (search (rules, length_mapped)) c.if-k-gt16.true
+returns-then-k-gt16 c = rw (lt-ltb _ _ c.if-k-gt16.true) (many_trains _ _ _ _ _ _ _ (search rules) c.if-k-gt16.true)
 
-pub loop-number-init : goal.loop-number-init
-loop-number-init c = search none_start
-
-pub returns-then-train_faulty : goal.returns-then-train_faulty
+pub returns-else-k-gt16 : goal.returns-else-k-gt16
 unfolding trains_fault
-returns-then-train_faulty c =
-    none_found _ _ _ c.loop-number-test.true (train-answer _ _ _ _ _ _ _ _ _ c.train_faulty.ensures c.if-train_faulty.true)
-
-pub loop-number-preserved : goal.loop-number-preserved
-loop-number-preserved c = search (none_turn, train-answer)
-
-pub returns : goal.returns
-unfolding trains_fault
-returns c = none_done _ _ _ c.loop-number.invariant c.loop-number-test.false
+returns-else-k-gt16 c =
+    let args = c.args in
+    let trains : length args.trains ≡ 16 = search rules in
+    let fault : ℕ × Train → Bool = λ p. train_fault args.n (track_in args.a.now args.b.now) (way_in args.ways.now) (point_in args.kinds.now) args.routes.now p.0 p.1 in
+    let pairs = YieldsList-from_zip {s = c.zip.result} (YieldsList-at c.zip.ensures.first (YieldsList-from_inclusive {s = c.new.result} args.k (cc) (cc) (cc))) (YieldsList-from_slice args.trains cc) in
+    let told = any_from_yields_List fault c.any.new.self _ c.any.result c.any.ensures.ran pairs (λ x b q k. search (rules, tests)) in
+    told ∙ any_pair fault _ (range_with_len 1 args.k) args.trains 0 no_train args.k (length-range_with_len 1 args.k) (omega arith)
+    (λ i h. rw (nth_at args.trains, get_or-range_with_len 1 args.k i 0 h, add_comm))

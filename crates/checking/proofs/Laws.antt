@@ -1,5 +1,6 @@
--- What a chain finds among the first records of a list, and the numbers that it counts on the way.
-use Rattle.std.proofs.Common.{◌≡◌, ℕ, suc, ◌+◌, ◌-◌, ◌≤◌, ◌<◌, Bool, true, false, ◌||◌, List, [], ◌∷◌, length, get_or, sym, ap, refl, arith, add-zero, add-one}
+-- What a chain finds in a list and among its numbers, and what an error says of a test.
+use Rattle.std.proofs.Common.{◌≡◌, ℕ, suc, ◌+◌, ◌-◌, ◌≤◌, ◌<◌, Bool, true, false, not, ◌||◌, eqb, List, [], ◌∷◌, length, get_or, sym, ap, refl, arith, add-zero, add-one, ne_eqb}
+use Rattle.std.specs.Prelude.{Result, Ok, Err, is_err}
 use Rattle.std.proofs.Math.Bool.{or-false, or_assoc}
 use Rattle.std.specs.List.{list_any, zip, range_with_len}
 use Rattle.std.specs.declared.ops.RangeInclusive.{RangeInclusive}
@@ -7,6 +8,11 @@ use Rattle.std.specs.Range.{range_inclusive_start, range_inclusive_end, range_in
 use Rattle.std.proofs.lemmas.Slice.Zip.{length-zip, get_or-zip}
 use Rattle.std.proofs.lemmas.Iterator.{YieldsList}
 use Rattle.std.proofs.lemmas.Iterator.Consumers.{YieldsList-from_shown}
+use Rattle.rules.specs.declared.errors.FileError.{FileError}
+use Rattle.rules.specs.declared.errors.StepError.{StepError}
+use Rattle.rules.specs.Ends.{Refusal}
+use Rattle.rules.specs.Errors.{refused, stopped}
+use Rattle.rules.proofs.Coded.{file_coded, step_coded}
 use Rattle.rules.specs.declared.Train.{Train}
 use Rattle.rules.specs.Rows.{nth, any_of, outside}
 use Rattle.rules.specs.Track.{Track}
@@ -15,6 +21,16 @@ use Rattle.rules.specs.Line.{no_train}
 use Rattle.rules.specs.Record.{train_fault, trains_fault}
 use Rattle.rules.proofs.Tests.{tests}
 use Rattle.rules.proofs.Rows.{nth_past, none_found}
+
+-- A result that is an error, by what it is promised to say.
+module _ {A : Type 0} where
+  pub refused_tested : (r : Result A FileError) (x : Refusal) → refused r ≡ x → is_err r ≡ not (eqb x.code 0)
+  refused_tested (Ok a) x e = rw (sym e) refl
+  refused_tested (Err f) x e = rw (sym e, ne_eqb _ 0 (file_coded f)) refl
+
+  pub stopped_tested : (r : Result A StepError) (c : ℕ) → stopped r ≡ c → is_err r ≡ not (eqb c 0)
+  stopped_tested (Ok a) c e = rw (sym e) refl
+  stopped_tested (Err f) c e = rw (sym e, ne_eqb _ 0 (step_coded f)) refl
 
 -- What a program finds in a list, and in two lists side by side, where f makes the same test of their records by number.
 any_listed : {A : Type 0} (test : A → Bool) (f : ℕ → Bool) (all : List A) (d : A) (i n : ℕ) → n ≡ i + length all

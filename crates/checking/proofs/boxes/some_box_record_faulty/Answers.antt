@@ -1,5 +1,5 @@
 -- The chain goes through the pairs of a plan and a record of the first m boxes.
-use Rattle.std.proofs.Common.{◌≡◌, take, get_or-take, length-take-le, ◌∙◌, refl, rules, tests, arith, length, le-ltb}
+use Rattle.std.proofs.Common.{◌≡◌, Bool, take, get_or-take, length-take-le, ◌∙◌, refl, rules, tests, arith, length, le-ltb}
 use Rattle.std.proofs.lemmas.Iterator.{YieldsList-from_slice, YieldsList-from_take, YieldsList-from_zip}
 use Rattle.std.proofs.lemmas.Iterator.Consumers.{YieldsList-at}
 use Rattle.std.proofs.lemmas.Iterator.Search.{any_from_yields_List}
@@ -16,12 +16,15 @@ use Rattle.checking.proofs.boxes.some_box_record_faulty.Goals as goal
 pub returns-else-m-gt96 : goal.returns-else-m-gt96
 unfolding switch_boxes_fault
 returns-else-m-gt96 c =
-    let args = c.args in
-    let plans : length args.plans ≡ 96 = search rules in
-    let boxes : length args.boxes ≡ 96 = search rules in
-    let firsts = YieldsList-from_take {s = c.take.result} args.m (YieldsList-at c.take.ensures.source (YieldsList-from_slice args.plans cc)) c.take.ensures.count in
-    let pairs = YieldsList-from_zip {s = c.zip.result} (YieldsList-at c.zip.ensures.first firsts) (YieldsList-from_slice args.boxes cc) in
-    let told = any_from_yields_List (λ (p : BoxPlan × SwitchBox). switch_box_fault args.k p.0 p.1) c.any.new.self _ c.any.result c.any.ensures.ran pairs (λ x b q k. search (rules, tests)) in
+    let line = c.args.line.now in
+    let m = line.table.m in
+    let all = line.table.boxes in
+    let plans : length line.table.boxes ≡ 96 = search rules in
+    let boxes : length line.boxes ≡ 96 = search rules in
+    let firsts = YieldsList-from_take {s = c.take.result} m (YieldsList-at c.take.ensures.source (YieldsList-from_slice all cc)) c.take.ensures.count in
+    let pairs = YieldsList-from_zip {s = c.zip.result} (YieldsList-at c.zip.ensures.first firsts) (YieldsList-from_slice line.boxes cc) in
+    let fault : BoxPlan × SwitchBox → Bool = λ p. switch_box_fault line.table.k p.0 p.1 in
+    let told = any_from_yields_List fault c.any.new.self _ c.any.result c.any.ensures.ran pairs (λ x b q h. search (rules, tests)) in
     or-last _ _ _ (le-ltb _ _ c.if-m-gt96.false)
-    (told ∙ any_pair _ _ (take args.m args.plans) args.boxes no_box_plan no_box args.m (length-take-le args.m args.plans (omega arith)) (omega arith)
-    (λ i h. rw (nth_at args.plans, nth_at args.boxes, get_or-take args.m args.plans i no_box_plan h)))
+    (told ∙ any_pair fault _ (take m all) line.boxes no_box_plan no_box m (length-take-le m all (omega arith)) (omega arith)
+    (λ i h. rw (nth_at all, nth_at line.boxes, get_or-take m all i no_box_plan h)))

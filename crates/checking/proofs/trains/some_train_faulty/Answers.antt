@@ -14,15 +14,19 @@ use Rattle.checking.proofs.Laws.{many_trains, any_pair, YieldsList-from_inclusiv
 use Rattle.checking.proofs.trains.some_train_faulty.Goals as goal
 
 pub returns-then-k-gt16 : goal.returns-then-k-gt16
-returns-then-k-gt16 c = rw (lt-ltb _ _ c.if-k-gt16.true) (many_trains _ _ _ _ _ _ _ (search rules) c.if-k-gt16.true)
+returns-then-k-gt16 c =
+    rw (lt-ltb _ _ c.if-k-gt16.true) (many_trains _ _ _ _ _ _ c.args.line.now.trains (search rules) c.if-k-gt16.true)
 
 pub returns-else-k-gt16 : goal.returns-else-k-gt16
 unfolding trains_fault
 returns-else-k-gt16 c =
-    let args = c.args in
-    let trains : length args.trains ≡ 16 = search rules in
-    let fault : ℕ × Train → Bool = λ p. train_fault args.n (track_in args.a.now args.b.now) (way_in args.ways.now) (point_in args.kinds.now) args.routes.now p.0 p.1 in
-    let pairs = YieldsList-from_zip {s = c.zip.result} (YieldsList-at c.zip.ensures.first (YieldsList-from_inclusive {s = c.new.result} args.k (cc) (cc) (cc))) (YieldsList-from_slice args.trains cc) in
-    let told = any_from_yields_List fault c.any.new.self _ c.any.result c.any.ensures.ran pairs (λ x b q k. search (rules, tests)) in
-    told ∙ any_pair fault _ (range_with_len 1 args.k) args.trains 0 no_train args.k (length-range_with_len 1 args.k) (omega arith)
-    (λ i h. rw (nth_at args.trains, get_or-range_with_len 1 args.k i 0 h, add_comm))
+    let line = c.args.line.now in
+    let k = line.table.k in
+    let columns = c.args.columns.now in
+    let trains : length line.trains ≡ 16 = search rules in
+    let numbers = YieldsList-from_inclusive {s = c.new.result} k (cc) (cc) (cc) in
+    let pairs = YieldsList-from_zip {s = c.zip.result} (YieldsList-at c.zip.ensures.first numbers) (YieldsList-from_slice line.trains cc) in
+    let fault : ℕ × Train → Bool = λ p. train_fault line.table.n (track_in columns.a columns.b) (way_in columns.ways) (point_in columns.kinds) line.routes p.0 p.1 in
+    let told = any_from_yields_List fault c.any.new.self _ c.any.result c.any.ensures.ran pairs (λ x b q h. search (rules, tests)) in
+    told ∙ any_pair fault _ (range_with_len 1 k) line.trains 0 no_train k (length-range_with_len 1 k) (omega arith)
+    (λ i h. rw (nth_at line.trains, get_or-range_with_len 1 k i 0 h, add_comm 1 i))

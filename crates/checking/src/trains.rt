@@ -6,7 +6,7 @@ ghost use Rattle.traincomputer.specs.Sight.{around_in};
 
 use columns::Columns;
 use rules::{Line, Message, Request, Train};
-use traincomputer::sight;
+use traincomputer::{Computer, sight};
 
 // A code that a box can give in answer to a request.
 #[tactic(auto, unfolding(rules::specs::Record::answer_code))]
@@ -25,8 +25,8 @@ fn answer_code(q: Request, code: u8) -> bool
 fn address_faulty(number: u8, r: Train, q: Request, routes: &[u8; 1024], columns: &Columns) -> bool
     ensures { result ≡ address_fault (around_in columns.now.a columns.now.b columns.now.ways columns.now.kinds routes.now number r) r q }
 {
-    let v = sight::around(number, r, routes, columns);
-    traincomputer::check_address(v, r, q).is_err()
+    let around = sight::around(number, r, routes, columns);
+    Computer { around, train: r }.check_address(q).is_err()
 }
 
 // Code 27 on a train's message.

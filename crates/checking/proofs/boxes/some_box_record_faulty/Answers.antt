@@ -1,5 +1,5 @@
 -- The chain goes through the pairs of a plan and a record of the first m boxes.
-use Rattle.std.proofs.Common.{◌≡◌, Bool, take, get_or-take, length-take-le, ◌∙◌, refl, rules, tests, arith, length, le-ltb}
+use Rattle.std.proofs.Common.{◌≡◌, Bool, take, get_or-take, length-take-le, ◌∙◌, rules, tests, arith, length, le-ltb}
 use Rattle.std.proofs.lemmas.Iterator.{YieldsList-from_slice, YieldsList-from_take, YieldsList-from_zip}
 use Rattle.std.proofs.lemmas.Iterator.Consumers.{YieldsList-at}
 use Rattle.std.proofs.lemmas.Iterator.Search.{any_from_yields_List}

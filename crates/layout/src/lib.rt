@@ -6,10 +6,12 @@ ghost use Rattle.std.specs.Prelude.{◌≡◌};
 ghost use Rattle.rules.specs.Rows.{first};
 ghost use Rattle.rules.specs.Track.{track_in, way_in};
 ghost use Rattle.rules.specs.Network.{known_version, has_ways, some_one_way, ways_fault, head_rows};
-ghost use Rattle.rules.specs.Placing.{parts_refusal, table_refusal};
+ghost use Rattle.rules.specs.Placing.{without_place, parts_refusal, table_refusal};
 ghost use Rattle.rules.specs.File.{segment_size};
+ghost use Rattle.rules.specs.Errors.{refused};
 
-use rules::{BoxPlan, Refusal, Table, TrainPlan};
+use columns::Columns;
+use rules::{FileError, Table};
 
 // The versions that are read.
 #[tactic(auto, unfolding(rules::specs::Network::known_version))]
@@ -52,59 +54,33 @@ fn some_way_unheld(version: u16, n: u8, ways: &[u8; 256]) -> bool
 
 // Codes 3 and 4: the version, and the numbers of segments, boxes and trains.
 #[tactic(auto, unfolding(rules::specs::Network::head_rows, rules::specs::Network::limits_fault, rules::specs::Rows::first, rules::specs::Rows::outside))]
-pub fn head_code(version: u16, n: u8, m: u8, k: u8) -> u8
-    ensures { result ≡ first (head_rows version n m k) }
+pub fn check_head(version: u16, n: u8, m: u8, k: u8) -> Result<(), FileError>
+    ensures { refused result ≡ without_place (first (head_rows version n m k)) }
 {
     if !known(version) {
-        return 3;
+        return Err(FileError::UnknownVersion);
     }
     if !(1..=96).contains(&n) || !(2..=96).contains(&m) || k > 16 {
-        return 4;
+        return Err(FileError::BadCounts);
     }
-    0
+    Ok(())
 }
 
-// Why a table record is refused, by its parts, the boxes at the A ends and at the B ends of segments, and their ways: 3, 4, 6 to 10, 11
-// or 28, 12 and 32, in this order.
-pub fn parts_refusal(
-    version: u16,
-    n: u8,
-    m: u8,
-    k: u8,
-    plans: [BoxPlan; 96],
-    trains: [TrainPlan; 16],
-    routes: &[u8; 1024],
-    a: &[u8; 256],
-    b: &[u8; 256],
-    ways: &[u8; 256],
-) -> Refusal
-    ensures { result ≡ parts_refusal version n m k (track_in a.now b.now) (way_in ways.now) plans trains routes.now }
+// Whether a table record is accepted, by its parts and its columns: 3, 4, 6 to 10, 11 or 28, 12 and 32, in this order.
+pub fn check_parts(table: &Table, columns: &Columns) -> Result<(), FileError>
+    ensures { refused result ≡ parts_refusal table.now.version table.now.n table.now.m table.now.k (track_in columns.now.a columns.now.b) (way_in columns.now.ways) table.now.boxes table.now.trains table.now.routes }
 {
-    if some_way_unheld(version, n, ways) {
-        return placing::without_place(3);
+    if some_way_unheld(table.version, table.n, &columns.ways) {
+        return Err(FileError::UnknownVersion);
     }
-    let head = head_code(version, n, m, k);
-    if head != 0 {
-        return placing::without_place(head);
-    }
-    let network = network::network_code(n, m, plans, a, b, ways);
-    if network != 0 {
-        return placing::without_place(network);
-    }
-    placing::placing_refusal(n, k, trains, routes, a, b, ways)
+    check_head(table.version, table.n, table.m, table.k)?;
+    network::check_network(table, columns)?;
+    placing::check_placing(table, columns)
 }
 
-// Why a table record is refused.
-pub fn table_refusal(t: Table) -> Refusal
-    ensures { result ≡ table_refusal t }
+// Whether a table record is accepted.
+pub fn check_table(table: &Table) -> Result<(), FileError>
+    ensures { refused result ≡ table_refusal table.now }
 {
-    let segments = t.segments;
-    let plans = t.boxes;
-    let trains = t.trains;
-    let a = network::far_boxes(segments, 1);
-    let b = network::far_boxes(segments, 0);
-    let ways = network::ways(segments);
-    parts_refusal(
-        t.version, t.n, t.m, t.k, plans, trains, &t.routes, &a, &b, &ways,
-    )
+    check_parts(table, &Columns::of(table))
 }

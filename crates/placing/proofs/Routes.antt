@@ -1,10 +1,13 @@
 -- What the conditions on routes say, in the words of the functions that test them.
-use Rattle.std.proofs.Common.{ℕ, zero, suc, ◌+◌, ◌-◌, ◌*◌, ◌≤◌, ◌<◌, ◌≡◌, refl, sym, ◌∙◌, ◌≢◌, Bool, true, false, eqb, List, length, get_or, set, take, drop, replicate, get_or-take, get_or-drop, length-set, get_or-set_same, get_or-set_other, arith, eq-eqb, ne_eqb, lt-ltb, le-ltb}
+use Rattle.std.proofs.Common.{ℕ, zero, suc, ◌+◌, ◌-◌, ◌*◌, ◌≤◌, ◌<◌, ◌≡◌, refl, sym, ◌∙◌, ◌≢◌, Bool, true, false, eqb, List, length, get_or, set, take, drop, replicate, length-take-le, get_or-take, get_or-drop, length-set, get_or-set_same, get_or-set_other, arith, eq-eqb, ne_eqb, lt-ltb, le-ltb}
 use Rattle.std.proofs.Math.Decide.{ℕ_discrete, dec_lt}
 use Rattle.std.proofs.lemmas.Bool.{false≢true}
 use Rattle.std.proofs.lemmas.List.{length-replicate}
+use Rattle.std.proofs.lemmas.List.FromFn.{get_or-enumerate_from}
+use Rattle.std.specs.List.{enumerate_from}
+use native.Mathlib.Nat.{zero-add}
 use lib.ListN.{get_or-eq_default}
-use Rattle.rules.proofs.Tests.{tests, answered}
+use Rattle.rules.proofs.Tests.{tests}
 use Rattle.rules.proofs.Rows.{any_none, any_skip, any_found, NoneYet, none_start, none_turn, none_found, none_done, nth_at, nth_past, replicate_at, route_index, route_before}
 use Rattle.rules.proofs.RouteFault.{NoneFound, found_start, found_turn, found_here, found_done, first_same, found-tells}
 use Rattle.rules.proofs.Refusals.{code_of, refused_nowhere, refused_there}
@@ -181,12 +184,16 @@ module _ (routes : List ℕ) (k i x : ℕ) (begun : List Bool) (h : Begun routes
 pub begun_done : (routes : List ℕ) (k i : ℕ) (begun : List Bool) → Begun routes k i begun → k ≤ i → false ≡ any_of k (start_fault routes)
 begun_done routes k i begun h l = none_done k _ i h.yet l
 
--- What code 32 says of the train with index i, by its direction d and the segment s with which it begins; z is what a function answered
--- for it, and v what a branch found.
-pub against_at : (way : ℕ → ℕ) (trains : List TrainPlan) (routes : List ℕ) (i d s : ℕ) (z v : Bool) → d ≡ (get_or trains i no_train_plan).direction
-    → s ≡ route_at routes (i + 1) 1 → z ≡ runs_against d (way s) → z ≡ v → start_against_at way trains routes (i + 1) ≡ v
+-- What code 32 says of the train with this index and this plan, and of the train with index i among the first n.
+abbrev pub starts_against : (ℕ → ℕ) → List ℕ → ℕ × TrainPlan → Bool
+starts_against way routes (i, p) = runs_against p.direction (way (route_at routes (i + 1) 1))
+
+pub against_at : (way : ℕ → ℕ) (trains : List TrainPlan) (routes : List ℕ) (n i : ℕ) → n ≤ length trains → i < n
+    → start_against_at way trains routes (i + 1) ≡ starts_against way routes (get_or (enumerate_from 0 (take n trains)) i (0, no_train_plan))
 unfolding start_against_at
-against_at way trains routes i d s z v at first e f = rw (nth_at, ← at, ← first) (answered _ _ _ e f)
+against_at way trains routes n i h l =
+    let within : i < length (take n trains) = omega (arith, length-take-le n trains h) in
+    rw (get_or-enumerate_from 0 (take n trains) i (0, no_train_plan) within, get_or-take n trains i no_train_plan l, nth_at, zero-add)
 
 -- Why a table with these trains is refused, by the tests that led there; x is why a route is.
 module _ (n k : ℕ) (track : Track) (way : ℕ → ℕ) (trains : List TrainPlan) (routes : List ℕ) where

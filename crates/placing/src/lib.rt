@@ -151,13 +151,10 @@ fn some_start_against(table: &Table, columns: &Columns) -> bool
     ensures { result ≡ any_of table.now.k (start_against_at (way_in columns.now.ways) table.now.trains table.now.routes) }
 {
     let trains: &[TrainPlan] = &table.trains;
-    for (i, p) in trains[..usize::from(table.k)].iter().enumerate() {
+    trains[..usize::from(table.k)].iter().enumerate().any(|(i, p)| {
         let first = segment_at(&table.routes, i as u8 + 1, 1);
-        if network::runs_against(p.direction, columns.ways[usize::from(first)]) {
-            return true;
-        }
-    }
-    false
+        network::runs_against(p.direction, columns.ways[usize::from(first)])
+    })
 }
 
 // Codes 10 to 12, 28 and 32 of a table's trains: why a table with these trains is refused.

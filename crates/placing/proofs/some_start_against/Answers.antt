@@ -1,21 +1,16 @@
-use Rattle.std.proofs.Common.{rules, arith, get_or-take}
+-- The chain goes through the plans of the first k trains, each with its index.
+use Rattle.std.proofs.Common.{rules, tests, arith, take}
+use Rattle.std.proofs.lemmas.Iterator.{YieldsList-from_slice}
+use Rattle.std.proofs.lemmas.Iterator.Consumers.{YieldsList-from_enumerate}
 use Rattle.std.proofs.lemmas.Grind.{common_steps}
-use Rattle.rules.proofs.Rows.{none_start, none_turn, none_found, none_done}
-use Rattle.placing.proofs.Routes.{against_at}
+use Rattle.std.proofs.lemmas.List.FromFn.{length-enumerate_from}
+use Rattle.rules.specs.Track.{no_train_plan, way_in}
+use Rattle.placing.proofs.AnyOf.{any_numbered}
+use Rattle.placing.proofs.Routes.{starts_against, against_at}
 use Rattle.placing.proofs.some_start_against.Goals as goal
 
-pub loop-i-init : goal.loop-i-init
-loop-i-init c = search (rules, none_start)
-
-pub returns-then-runs_against : goal.returns-then-runs_against
-returns-then-runs_against c =
-    none_found _ _ c.loop-i.i (grind (arith, common_steps))
-    (against_at _ _ _ _ _ _ _ _ (search (rules, get_or-take)) (cc) c.runs_against.ensures c.if-runs_against.true)
-
-pub loop-i-preserved : goal.loop-i-preserved
-loop-i-preserved c =
-    none_turn _ _ _ c.loop-i.invariant (grind (arith, common_steps))
-    (against_at _ _ _ _ _ _ _ _ (search (rules, get_or-take)) (cc) c.runs_against.ensures c.if-runs_against.false)
-
 pub returns : goal.returns
-returns c = search (rules, none_done)
+returns c =
+    any_numbered (starts_against (way_in c.args.columns.now.ways) c.args.table.now.routes) _ _ _ _ _ (0, no_train_plan) c.any.ensures.ran
+    (YieldsList-from_enumerate {s = c.enumerate.result} (YieldsList-from_slice (take c.from.result c.args.table.now.trains) (cc)) (cc))
+    (λ x b q k. search (rules, tests)) (grind (arith, common_steps, length-enumerate_from)) (λ i k. against_at _ _ _ _ i (grind (arith, common_steps)) (omega arith))

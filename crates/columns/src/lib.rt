@@ -2,13 +2,14 @@
 #![tactic(auto)]
 
 ghost use Rattle.std.specs.Prelude.{◌≡◌};
-ghost use Rattle.rules.specs.Track.{track_of, track_in, way_of, far_box, near_box};
+ghost use Rattle.rules.specs.Track.{track_of, track_in, way_of, way_in, point_at, point_in, far_box, near_box};
 ghost use Rattle.columns.specs.Column.{column, kind_of};
 
 use rules::{BoxPlan, Segment, Table};
 
 // The boxes at the A ends and at the B ends of segments and the ways of segments, each by the segment's number, and the kinds of boxes by
 // theirs; 0 where there is none.
+#[derive(Drop)]
 pub struct Columns {
     pub a: [u8; 256],
     pub b: [u8; 256],
@@ -23,6 +24,10 @@ impl Columns {
         ensures b { result.b ≡ column (far_box (track_of table.now) 0) }
         ensures ways { result.ways ≡ column (way_of table.now) }
         ensures kinds { result.kinds ≡ column (kind_of table.now.boxes) }
+        // So what is decided on the columns is decided on the table.
+        ensures track { track_in result.a result.b ≡ track_of table.now }
+        ensures way { way_in result.ways ≡ way_of table.now }
+        ensures points { point_in result.kinds ≡ point_at table.now }
     {
         // As slices, whose lengths the proof knows.
         let segments: &[Segment] = &table.segments;

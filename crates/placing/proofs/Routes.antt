@@ -189,7 +189,7 @@ abbrev pub starts_against : (ℕ → ℕ) → List ℕ → ℕ × TrainPlan → 
 starts_against way routes (i, p) = runs_against p.direction (way (route_at routes (i + 1) 1))
 
 pub against_at : (way : ℕ → ℕ) (trains : List TrainPlan) (routes : List ℕ) (n i : ℕ) → n ≤ length trains → i < n
-    → start_against_at way trains routes (i + 1) ≡ starts_against way routes (get_or (enumerate_from 0 (take n trains)) i (0, no_train_plan))
+    → starts_against way routes (get_or (enumerate_from 0 (take n trains)) i (0, no_train_plan)) ≡ start_against_at way trains routes (i + 1)
 unfolding start_against_at
 against_at way trains routes n i h l =
     let within : i < length (take n trains) = omega (arith, length-take-le n trains h) in

@@ -4,6 +4,7 @@ use Rattle.rules.proofs.Rows.{length_mapped}
 use Rattle.columns.specs.Column.{column}
 use Rattle.columns.proofs.Column.{fill_start, fill_turn, fill_end}
 use Rattle.columns.proofs.Numbered.{way_none, way_past, way_at, far_none, far_past, end_a_at, end_b_at, kind_none, kind_past, kind_at}
+use Rattle.columns.proofs.Tracks.{track-made, ways_made, points_made}
 use Rattle.columns.proofs.Columns.of.Goals as goal
 
 pub loop-i-init : goal.loop-i-init
@@ -49,3 +50,18 @@ returns-clause-kinds c =
     let size : length c.args.table.now.boxes ≡ 96 = search (rules, length_mapped) in
     let end : c.loop-j.j ≡ 96 = omega arith in
     fill_end 256 _ 96 _ (rw end at c.loop-j.invariant) (kind_past _ size)
+
+pub returns-clause-track : goal.returns-clause-track
+returns-clause-track c =
+    let size : length c.args.table.now.segments ≡ 96 = search (rules, length_mapped) in
+    track-made _ size (returns-clause-a c) (returns-clause-b c)
+
+pub returns-clause-way : goal.returns-clause-way
+returns-clause-way c =
+    let size : length c.args.table.now.segments ≡ 96 = search (rules, length_mapped) in
+    ways_made _ size (returns-clause-ways c)
+
+pub returns-clause-points : goal.returns-clause-points
+returns-clause-points c =
+    let size : length c.args.table.now.boxes ≡ 96 = search (rules, length_mapped) in
+    points_made _ size (returns-clause-kinds c)

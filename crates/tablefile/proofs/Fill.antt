@@ -1,36 +1,28 @@
 -- Arrays that a loop fills list by list (record by record: Rows of `rules`).
-use Prim.Native.Nat.{ℕ, zero, suc, ◌+◌, ◌-◌, ◌*◌, ◌≤◌, ◌<◌, min}
-use mathlib.Core.Path.{◌≡◌, refl, sym, ◌∙◌, ap}
-use mathlib.Core.List.{List, [], ◌∷◌, ◌++◌, append_assoc, append-nil}
-use native.Mathlib.Decide.{dec_lt}
-use native.Mathlib.Numerals.{add-one}
-use native.Mathlib.Omega.{arith}
-use lib.ListN.{length, get_or, set, take, drop, replicate, length-append, length-take, length-drop, replicate-append-replicate}
-use lib.Seq.{sets, take_all, take-take, take-suc, get_or-drop, length-take-le}
+use Rattle.std.proofs.Common.{ℕ, zero, suc, ◌+◌, ◌-◌, ◌*◌, ◌≤◌, ◌<◌, min, ◌≡◌, refl, sym, ◌∙◌, ap, List, [], ◌∷◌, ◌++◌, append_assoc, length, take, drop, replicate, length-append, length-take, take-take, take_all, arith}
+use Rattle.std.proofs.lemmas.List.{replicate-append-replicate, drop-replicate}
+use Rattle.std.proofs.Math.Decide.{dec_lt}
+use Rattle.std.proofs.Math.Seq.{take-append_seam, take-append-add, drop-append_seam}
+use borrow.Rule.Slice.PartMut.{put_mid}
 use Rattle.rules.specs.Rows.{join_of, filled}
-use Rattle.rules.proofs.Rows.{join_more, join_length, filled-length, filled-set, take-replicate, sets_append}
+use Rattle.rules.proofs.Rows.{join_more, join_length, filled-length, take-replicate}
 
-module _ {ℓ} {A : Type ℓ} where
-  -- A part that is copied, with one more.
-  pub copy_more : (l s : List A) (place from j : ℕ) (d : A) →
-      from + j < length s →
-      set (sets l place (take j (drop from s))) (place + j) (get_or s (from + j) d) ≡ sets l place (take (j + 1) (drop from s))
-  copy_more l s place from j d h =
-      let w = take j (drop from s) in
-      let a = get_or s (from + j) d in
-      let k : j < length (drop from s) = simp length-drop (omega arith) in
-      let e : length w ≡ j = length-take-le j (drop from s) (omega arith) in
-      rw (add-one, take-suc (drop from s) j d, get_or-drop)
-      (ap (λ (i : ℕ). set (sets l place w) (place + i) a) (sym e) ∙ sym (sets_append w (a ∷ []) l place))
+module _ {A : Type 0} where
+  -- A list filled up, by its length, and a list copied behind it.
+  filled_by : (n : ℕ) (d : A) (l : List A) → length l ≤ n → filled n d l ≡ l ++ replicate (n - length l) d
+  unfolding filled
+  filled_by n d l h =
+      let e : n ≡ length l + (n - length l) = omega arith in
+      ap (λ m. take m (l ++ replicate n d)) e
+      ∙ take-append-add l (replicate n d) (n - length l)
+      ∙ ap (λ r. l ++ r) (take-replicate (n - length l) n d (omega arith))
 
-  -- A list stored behind a list that is filled up.
-  sets_fill : (v l : List A) (n : ℕ) (d : A) → length l + length v ≤ n → sets (filled n d l) (length l) v ≡ filled n d (l ++ v)
-  sets_fill [] l n d h = rw append-nil
-  sets_fill (a ∷ v) l n d h =
-      let e : suc (length l) ≡ length (l ++ (a ∷ [])) = sym (length-append l (a ∷ []) ∙ omega arith) in
-      let f : length (l ++ (a ∷ [])) + length v ≤ n = omega (arith, e) in
-      rw (filled-set n d a l (length l) refl (omega arith), e)
-      (sets_fill v (l ++ (a ∷ [])) n d f ∙ ap (λ (r : List A). filled n d r) (append_assoc l (a ∷ []) v))
+  fill_list : (n k : ℕ) (d : A) (l v : List A) →
+      length v ≡ k → length l + k ≤ n → put_mid (length l) k (filled n d l) v ≡ filled n d (l ++ v)
+  fill_list n k d l v e h =
+      let long : length (l ++ v) ≤ n = simp length-append (omega arith) in
+      let left : n - length l - k ≡ n - length (l ++ v) = simp length-append (omega arith) in
+      rw (filled_by n d l (omega arith), filled_by n d (l ++ v) long, take-append_seam, drop-append_seam, drop-replicate, left, append_assoc)
 
   -- Filling up twice: the first filling adds nothing.
   drop_pad : (n q r : ℕ) (d : A) (l : List A) → n ≤ length l + r → take n ((l ++ replicate q d) ++ replicate r d) ≡ take n (l ++ replicate r d)
@@ -63,18 +55,19 @@ module _ {ℓ} {A : Type ℓ} where
         | no h ↦ let e : min m n ≡ m = omega arith in rw e (sym (take_all n (take m l) (simp length-take (omega arith))))
       ]
 
-  -- One list more, of which at most 64 are stored.
-  pub join_set : (f : ℕ → List A) (d : A) (i count size : ℕ) (l v : List A) →
+  -- One list more, of which at most 64 are copied.
+  pub join_copy : (f : ℕ → List A) (d : A) (i k size : ℕ) (l v w : List A) →
       i < 16 →
       l ≡ filled 1024 d (join_of i (λ s. filled 64 d (f s))) →
       f (i + 1) ≡ take size v →
-      count ≡ min size 64 →
-      sets l (64 * i) (take count v) ≡ filled 1024 d (join_of (i + 1) (λ s. filled 64 d (f s)))
-  join_set f d i count size l v h e g k =
+      k ≡ min size 64 →
+      k ≤ length v →
+      w ≡ take k v →
+      put_mid (64 * i) k l w ≡ filled 1024 d (join_of (i + 1) (λ s. filled 64 d (f s)))
+  join_copy f d i k size l v w h e g c room is =
       let g64 : ℕ → List A = λ s. filled 64 d (f s) in
       let j : length (join_of i g64) ≡ 64 * i = join_length g64 64 (λ s. filled-length 64 d (f s)) i in
-      let w : take count v ≡ take 64 (f (i + 1)) = rw (k, g) (take_min size 64 v) in
-      let m : length (take 64 (f (i + 1))) ≤ 64 = simp length-take (omega arith) in
-      rw (e, w, sym j) (sets_fill (take 64 (f (i + 1))) (join_of i g64) 1024 d (omega arith))
-      ∙ sym (filled_pad 1024 64 d (join_of i g64) (f (i + 1)))
-      ∙ ap (λ (s : List A). filled 1024 d s) (sym (join_more g64 i))
+      let same : w ≡ take 64 (f (i + 1)) = is ∙ rw (c, g) (take_min size 64 v) in
+      let long : length w ≡ k = rw is (simp length-take (omega arith)) in
+      rw (e, sym j, fill_list 1024 k d (join_of i g64) w long (omega arith), same)
+      (sym (filled_pad 1024 64 d (join_of i g64) (f (i + 1))) ∙ ap (λ (s : List A). filled 1024 d s) (sym (join_more g64 i)))

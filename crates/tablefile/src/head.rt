@@ -1,31 +1,53 @@
 // The head of a table file: codes 1 to 5, and the table of a file that they let through.
 ghost use Rattle.std.specs.Prelude.{◌≡◌, ◌≤◌, length};
-ghost use Rattle.rules.specs.File.{marked, version_in};
+ghost use Rattle.rules.specs.File.{marked, version_in, segment_size, segment_count, box_count, train_count};
 ghost use Rattle.tablefile.specs.Whole.{early_code, table_in};
 
 use crate::reader;
 use rules::Table;
 
+// The numbers of a file's head.
+#[derive(Clone, Copy)]
+pub(crate) struct Head {
+    pub(crate) version: u16,
+    pub(crate) n: u8,
+    pub(crate) m: u8,
+    pub(crate) k: u8,
+}
+
+impl Head {
+    // The head of a file that is long enough to have one; its version has the high byte first.
+    #[tactic(auto, unfolding(rules::specs::File::version_in, rules::specs::File::segment_count, rules::specs::File::box_count, rules::specs::File::train_count, rules::specs::File::byte_at))]
+    pub(crate) fn of(bytes: &[u8]) -> Head
+        requires { 8 ≤ length bytes.now }
+        ensures version { result.version ≡ version_in bytes.now }
+        ensures segments { result.n ≡ segment_count bytes.now }
+        ensures boxes { result.m ≡ box_count bytes.now }
+        ensures trains { result.k ≡ train_count bytes.now }
+    {
+        Head {
+            version: u16::from_be_bytes([bytes[3], bytes[4]]),
+            n: bytes[5],
+            m: bytes[6],
+            k: bytes[7],
+        }
+    }
+
+    // The bytes of a segment record.
+    pub(crate) fn segment_size(self) -> u8
+        ensures { result ≡ segment_size self.version }
+    {
+        layout::segment_size(self.version)
+    }
+}
+
 // The file's mark stands at its beginning.
+#[tactic(auto, unfolding(rules::specs::File::marked, rules::specs::File::byte_at))]
 fn marked(bytes: &[u8]) -> bool
     requires { 8 ≤ length bytes.now }
     ensures { result ≡ marked bytes.now }
 {
-    if bytes[0] != 0x4E {
-        return false;
-    }
-    if bytes[1] != 0x45 {
-        return false;
-    }
-    bytes[2] == 0x54
-}
-
-// The version, its high byte first.
-pub(crate) fn version(bytes: &[u8]) -> u16
-    requires { 8 ≤ length bytes.now }
-    ensures { result ≡ version_in bytes.now }
-{
-    256 * (bytes[3] as u16) + (bytes[4] as u16)
+    bytes.starts_with(b"NET")
 }
 
 // The first of codes 1 to 5 that applies, or 0.
@@ -38,16 +60,12 @@ pub fn early_code(bytes: &[u8]) -> u8
     if !marked(bytes) {
         return 2;
     }
-    let version = version(bytes);
-    let n = bytes[5];
-    let m = bytes[6];
-    let k = bytes[7];
-    let head = layout::head_code(version, n, m, k);
-    if head != 0 {
-        return head;
+    let head = Head::of(bytes);
+    let code = layout::head_code(head.version, head.n, head.m, head.k);
+    if code != 0 {
+        return code;
     }
-    let size = layout::segment_size(version);
-    if !reader::ends_with_trains(bytes, n, m, k, size) {
+    if !reader::ends_with_trains(bytes) {
         return 5;
     }
     0
@@ -60,10 +78,5 @@ pub fn table(bytes: &[u8]) -> Table
     if early_code(bytes) != 0 {
         return crate::empty_table();
     }
-    let version = version(bytes);
-    let n = bytes[5];
-    let m = bytes[6];
-    let k = bytes[7];
-    let size = layout::segment_size(version);
-    reader::table(bytes, version, n, m, k, size)
+    reader::table(bytes)
 }

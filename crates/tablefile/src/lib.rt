@@ -21,6 +21,7 @@ pub struct FileTable {
 }
 
 // The table with nothing in it.
+#[tactic(auto, unfolding(rules::specs::Line::empty_table))]
 pub fn empty_table() -> Table
     ensures { result ≡ empty_table }
 {
@@ -29,19 +30,10 @@ pub fn empty_table() -> Table
         n: 0,
         m: 0,
         k: 0,
-        segments: [Segment { a: 0, b: 0, way: 0 }; 96],
-        boxes: [BoxPlan {
-            kind: 0,
-            stem: 0,
-            left: 0,
-            right: 0,
-            position: 0,
-        }; 96],
-        trains: [TrainPlan {
-            direction: 0,
-            length: 0,
-        }; 16],
-        routes: [0u8; 1024],
+        segments: [Segment::default(); 96],
+        boxes: [BoxPlan::default(); 96],
+        trains: [TrainPlan::default(); 16],
+        routes: [0; 1024],
     }
 }
 
@@ -100,11 +92,7 @@ pub fn route<'a>(
     if refused.code != 0 {
         return &bytes[0..0];
     }
-    let n = bytes[5];
-    let m = bytes[6];
-    let size = layout::segment_size(head::version(bytes));
-    let part = reader::from_train(bytes, n, m, number - 1, size);
-    let length = part[1] as usize;
-    let end = 2 + length;
+    let part = reader::from_train(bytes, number - 1);
+    let end = 2 + part[1] as usize;
     &part[2..end]
 }

@@ -1,14 +1,9 @@
--- A turn reads one box. The invariant keeps that all boxes are within the file.
-use Prim.Native.Nat.{◌+◌, ◌-◌, ◌*◌, ◌≤◌}
-use mathlib.Core.Path.{◌≡◌}
-use lib.ListN.{length}
+-- A turn reads one box. All boxes are within the file.
+use Rattle.std.proofs.Common.{◌≡◌, ◌+◌, ◌*◌, ◌≤◌, length}
 use Rattle.rules.specs.Rows.{filled, list_of}
 use Rattle.rules.specs.Track.{no_box_plan}
 use Rattle.rules.specs.File.{plan_in}
 use Rattle.tablefile.proofs.records.boxes.Given as goal
 
 abbrev pub invariant-loop-i : goal.invariant-loop-i
-invariant-loop-i l = (l.i ≤ l.m) × (l.m ≤ 96) × (l.from + 5 * l.m ≤ length l.bytes) × (l.all ≡ filled 96 no_box_plan (list_of l.i (plan_in l.bytes)))
-
-abbrev pub decreases-loop-i : goal.decreases-loop-i
-decreases-loop-i l = l.m - l.i
+invariant-loop-i l = (l.from + 5 * l.m ≤ length l.bytes) × (l.all ≡ filled 96 no_box_plan (list_of l.i (plan_in l.bytes)))

@@ -1,7 +1,5 @@
--- A turn reads one train. The invariant keeps that the trains left are within the file.
-use Prim.Native.Nat.{◌+◌, ◌-◌, ◌*◌, ◌≤◌}
-use mathlib.Core.Path.{◌≡◌}
-use lib.ListN.{length}
+-- A turn reads one train. The trains left are within the file.
+use Rattle.std.proofs.Common.{◌≡◌, ◌+◌, ◌-◌, ◌*◌, ◌≤◌, length}
 use Rattle.rules.specs.Rows.{filled, list_of}
 use Rattle.rules.specs.Track.{no_train_plan}
 use Rattle.rules.specs.File.{trains_from, train_plan_in}
@@ -9,11 +7,6 @@ use Rattle.tablefile.proofs.records.trains.Given as goal
 
 abbrev pub invariant-loop-i : goal.invariant-loop-i
 invariant-loop-i l =
-    (l.i ≤ l.k)
-    × (l.k ≤ 16)
-    × (l.at + 2 * (l.k - l.i) ≤ length l.bytes)
+    (l.at + 2 * (l.k - l.i) ≤ length l.bytes)
     × (l.at ≡ trains_from l.bytes l.i)
     × (l.all ≡ filled 16 no_train_plan (list_of l.i (train_plan_in l.bytes)))
-
-abbrev pub decreases-loop-i : goal.decreases-loop-i
-decreases-loop-i l = l.k - l.i

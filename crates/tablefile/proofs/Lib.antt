@@ -1,6 +1,5 @@
 -- Laws that the proofs of this crate's functions cite.
 pub mod Fill
 pub mod Parts
-pub mod Placed
 pub mod Codes
 pub mod Files

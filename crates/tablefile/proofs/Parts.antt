@@ -1,16 +1,17 @@
 -- Where the records of a file stand, and that they are within a whole file.
-use Rattle.std.proofs.Common.{ℕ, zero, suc, ◌+◌, ◌-◌, ◌*◌, ◌^◌, ◌≤◌, ◌<◌, min, ◌≡◌, refl, sym, ◌∙◌, ap, Bool, true, false, cond, List, length, get_or, take, drop, replicate, add-one, mul-le-mul_left, mul-le-mul_right, arith}
+use Rattle.std.proofs.Common.{ℕ, zero, suc, ◌+◌, ◌-◌, ◌*◌, ◌^◌, ◌≤◌, ◌<◌, min, ◌≡◌, refl, sym, ◌∙◌, ap, Bool, true, false, cond, List, length, get_or, take, drop, replicate, length-drop, get_or-drop, drop-drop, add-one, mul-le-mul_left, mul-le-mul_right, arith}
 use borrow.Rule.Slice.PartMut.{put_mid}
 use Rattle.rules.specs.Network.{has_ways}
 use Rattle.rules.specs.File.{decode, segment_size, box_size, train_size, byte_at, version_in, segment_count, box_count, train_count}
-use Rattle.rules.specs.File.{segment_start, box_start, trains_from, train_start, file_length, segment_from, segment_in, plan_in, train_plan_in, route_in}
+use Rattle.rules.specs.File.{segment_start, box_start, trains_from, train_start, route_start, file_length, segment_from, segment_in, plan_in, train_plan_in, route_in}
 use Rattle.rules.specs.Rows.{filled}
-use Rattle.rules.proofs.Rows.{join_none, filled_none}
+use Rattle.rules.proofs.Rows.{join_none, filled_none, fill_none, fill_more}
 use Rattle.rules.specs.declared.Segment.{Segment}
 use Rattle.rules.specs.declared.BoxPlan.{BoxPlan}
 use Rattle.rules.specs.declared.TrainPlan.{TrainPlan}
 use Rattle.tablefile.specs.Whole.{Whole, segments_of, boxes_of, trains_of, routes_up_to, routes_of}
-use Rattle.tablefile.specs.Places.{AtSegments, AtBoxes, AtTrains, TrainsAt}
+use Rattle.tablefile.specs.Places.{AtSegments, AtBoxes, HasTrain}
+use Rattle.tablefile.specs.Part.{pointer_after}
 use Rattle.tablefile.proofs.Fill.{join_copy}
 
 -- A segment record has three bytes at most.
@@ -32,20 +33,20 @@ module _ (bytes : List ℕ) where
   unfolding box_start box_size
   box_at i = omega arith
 
-  pub segments-place : 8 ≡ segment_start bytes 1
-  segments-place = omega (arith, segment_at 0)
+  pub segments_place : 8 ≡ segment_start bytes 1
+  segments_place = omega (arith, segment_at 0)
 
-  pub boxes-place : 8 + segment_size (version_in bytes) * segment_count bytes ≡ box_start bytes 1
-  boxes-place = omega (arith, box_at 0)
+  pub boxes_place : 8 + segment_size (version_in bytes) * segment_count bytes ≡ box_start bytes 1
+  boxes_place = omega (arith, box_at 0)
 
-  pub trains-place : 8 + segment_size (version_in bytes) * segment_count bytes + 5 * box_count bytes ≡ trains_from bytes 0
+  pub trains_place : 8 + segment_size (version_in bytes) * segment_count bytes + 5 * box_count bytes ≡ trains_from bytes 0
   unfolding trains_from
-  trains-place = sym (box_at (box_count bytes))
+  trains_place = sym (box_at (box_count bytes))
 
   -- The counts are bytes, so that the place of the trains is near the beginning.
-  pub trains-near : segment_count bytes < 2 ^ 8 → box_count bytes < 2 ^ 8 → trains_from bytes 0 ≤ 2048
-  trains-near n m =
-      omega (arith, trains-place, mul-le-mul_right (segment_count bytes) (size_high (version_in bytes)))
+  pub trains_near : segment_count bytes < 2 ^ 8 → box_count bytes < 2 ^ 8 → trains_from bytes 0 ≤ 2048
+  trains_near n m =
+      omega (arith, trains_place, mul-le-mul_right (segment_count bytes) (size_high (version_in bytes)))
 
   -- Where the next train record begins.
   pub trains-more : (j : ℕ) → trains_from bytes (j + 1) ≡ trains_from bytes j + 2 + byte_at bytes (trains_from bytes j + 1)
@@ -72,11 +73,18 @@ module _ (bytes : List ℕ) where
         omega (arith, w.exact, rw e at (rest i (train_count bytes - i)))
 
     pub whole-boxes : 8 + segment_size (version_in bytes) * segment_count bytes + 5 * box_count bytes ≤ length bytes
-    whole-boxes = omega (arith, trains-place, whole_rest 0 (omega arith))
+    whole-boxes = omega (arith, trains_place, whole_rest 0 (omega arith))
 
-    -- Train i's record, by where it begins.
-    pub train_room : (i : ℕ) → i < train_count bytes → trains_from bytes i + 2 + byte_at bytes (trains_from bytes i + 1) ≤ length bytes
-    train_room i h = omega (arith, trains-more i, whole_rest (i + 1) (omega arith))
+    pub whole_long : 8 ≤ length bytes
+    whole_long = omega (arith, whole-boxes)
+
+    -- Train i's record, of two bytes at least, by where it begins.
+    pub train_head : (i : ℕ) → i < train_count bytes → trains_from bytes i + 2 ≤ length bytes
+    train_head i h = omega (arith, whole_rest i (omega arith))
+
+    pub train_room : (i at : ℕ) → i < train_count bytes → at ≡ trains_from bytes i → at + 2 + get_or bytes (at + 1) 0 ≤ length bytes
+    unfolding byte_at
+    train_room i at h e = rw e (omega (arith, trains-more i, whole_rest (i + 1) (omega arith)))
 
   -- The segment records from a place on: they are within the file, and the file's.
   module _ (from : ℕ) (a : AtSegments bytes from) (size version i : ℕ) (e : version ≡ version_in bytes) (f : size ≡ segment_size version) where
@@ -88,12 +96,12 @@ module _ (bytes : List ℕ) where
 
     pub segment_here : segment_from bytes version (from + size * i) ≡ segment_in bytes (i + 1)
     unfolding segment_in
-    segment_here = rw (segment_at i, a.place, ← segments-place, f, e)
+    segment_here = rw (segment_at i, a.place, ← segments_place, f, e)
 
   -- The box records likewise.
   module _ (from : ℕ) (a : AtBoxes bytes from) where
     pub box_room : from + 5 * box_count bytes ≤ length bytes
-    box_room = omega (arith, a.place, boxes-place, whole-boxes a.whole)
+    box_room = omega (arith, a.place, boxes_place, whole-boxes a.whole)
 
     pub box_here : (i : ℕ) →
         let at = from + 5 * i in
@@ -120,26 +128,52 @@ module _ (bytes : List ℕ) where
     unfolding route_in byte_at train_size
     route_in_lem = rw (train_at, e)
 
-    pub trains-next : at + 2 + get_or bytes (at + 1) 0 ≡ trains_from bytes (i + 1)
+    pub trains_next : at + 2 + get_or bytes (at + 1) 0 ≡ trains_from bytes (i + 1)
     unfolding byte_at
-    trains-next = rw (trains-more, e)
+    trains_next = rw (trains-more, e)
+
+  -- The file from the record of train i on, which has the train's route behind the first two bytes.
+  module _ (i : ℕ) (h : HasTrain bytes i) where
+    room : trains_from bytes (i - 1) + 2 + get_or bytes (trains_from bytes (i - 1) + 1) 0 ≤ length bytes
+    room = train_room h.whole (i - 1) _ (omega (arith, h.low, h.high)) refl
+
+    pub route_place : trains_from bytes (i - 1) ≤ length bytes
+    route_place = omega (arith, room)
+
+    pub route_at : (p q : ℕ × ℕ) → q ≡ pointer_after p (trains_from bytes (i - 1)) → (q.0, 2 + q.1) ≡ pointer_after p (route_start bytes i)
+    unfolding train_start train_size
+    route_at p q e = rw e (ap (λ (o : ℕ). (p.0, o)) (omega arith))
+
+    module _ (rest : List ℕ) (e : rest ≡ drop (trains_from bytes (i - 1)) bytes) where
+      pub route_room : 2 + get_or rest 1 0 ≤ length rest
+      route_room = rw (e, get_or-drop, length-drop) (omega (arith, room))
+
+      pub route_is : take (2 + get_or rest 1 0 - 2) (drop 2 rest) ≡ route_in bytes i
+      route_is =
+          let j : i - 1 + 1 ≡ i = omega (arith, h.low) in
+          let size : 2 + get_or rest 1 0 - 2 ≡ get_or rest 1 0 = omega arith in
+          rw (size, e, get_or-drop, drop-drop) (rw j at (sym (route_in_lem (i - 1) _ refl)))
 
   -- The routes: none, and one more.
-  pub routes-none : replicate 1024 0 ≡ routes_up_to bytes 0
+  pub routes_none : replicate 1024 0 ≡ routes_up_to bytes 0
   unfolding routes_up_to
-  routes-none = sym (ap (λ (l : List ℕ). filled 1024 0 l) (join_none _) ∙ filled_none 1024 0)
+  routes_none = sym (ap (λ (l : List ℕ). filled 1024 0 l) (join_none _) ∙ filled_none 1024 0)
 
-  pub routes-more : (i at k : ℕ) (l w : List ℕ) →
-      i < 16 →
+  pub routes_more : Whole bytes → (i at k room count : ℕ) (l copied : List ℕ) →
+      i < train_count bytes →
       at ≡ trains_from bytes i →
-      k ≡ min (get_or bytes (at + 1) 0) 64 →
-      k ≤ length (drop (at + 2) bytes) →
       l ≡ routes_up_to bytes i →
-      w ≡ take k (drop (at + 2) bytes) →
-      put_mid (64 * i) k l w ≡ routes_up_to bytes (i + 1)
+      k ≡ min (get_or bytes (at + 1) 0) 64 →
+      room ≡ k →
+      count ≡ k →
+      copied ≡ take count (drop (at + 2) bytes) →
+      put_mid (64 * i) room l copied ≡ routes_up_to bytes (i + 1)
   unfolding routes_up_to
-  routes-more i at k l w h e c room r is =
-      join_copy (route_in bytes) 0 i k (get_or bytes (at + 1) 0) l (drop (at + 2) bytes) w h r (route_in_lem i at e) c room is
+  routes_more w i at k room count l copied h e r c f g is =
+      let fits : k ≤ length (drop (at + 2) bytes) = simp length-drop (omega (arith, c, train_room w i at h e)) in
+      rw f
+      (join_copy (route_in bytes) 0 i k (get_or bytes (at + 1) 0) l (drop (at + 2) bytes) copied (omega (arith, w.trains)) r (route_in_lem i at e) c fits
+      (rw g at is))
 
   -- The table record, by the numbers of the head and the arrays.
   pub decode_of : (version n m k : ℕ) (s : List Segment) (b : List BoxPlan) (t : List TrainPlan) (r : List ℕ) →
@@ -154,3 +188,9 @@ module _ (bytes : List ℕ) where
       record { version = version; n = n; m = m; k = k; segments = s; boxes = b; trains = t; routes = r } ≡ decode bytes
   unfolding decode segments_of boxes_of trains_of routes_of routes_up_to
   decode_of version n m k s b t r ev en em ek es eb et er = rw (ev, en, em, ek, es, eb, et, er)
+
+-- What the loops over a file's records go by.
+pub ruleset records = (whole_long, train_head, train_room, segment_room, segment_here, box_room, box_here, train_here, trains_next, routes_none, routes_more, fill_none, fill_more)
+
+-- What the readers go by.
+pub ruleset places = (whole_long, segments_place, boxes_place, trains_place, trains_near, route_place, route_at, route_room, route_is, decode_of)

@@ -1,10 +1,12 @@
 // The head of a table file: codes 1 to 5, and the table of a file that they let through.
-ghost use Rattle.std.specs.Prelude.{◌≡◌, ◌≤◌, length};
-ghost use Rattle.rules.specs.File.{marked, version_in, segment_size, segment_count, box_count, train_count};
-ghost use Rattle.tablefile.specs.Whole.{early_code, table_in};
+ghost use Rattle.std.specs.Prelude.{◌≡◌, ◌≤◌, length, IfOk};
+ghost use Rattle.rules.specs.Placing.{without_place};
+ghost use Rattle.rules.specs.File.{marked, version_in, segment_size, segment_count, box_count, train_count, decode};
+ghost use Rattle.rules.specs.Errors.{refused};
+ghost use Rattle.tablefile.specs.Whole.{early_code};
 
 use crate::reader;
-use rules::Table;
+use rules::{FileError, Table};
 
 // The numbers of a file's head.
 #[derive(Clone, Copy)]
@@ -50,33 +52,22 @@ fn marked(bytes: &[u8]) -> bool
     bytes.starts_with(b"NET")
 }
 
-// The first of codes 1 to 5 that applies, or 0.
-pub fn early_code(bytes: &[u8]) -> u8
-    ensures { result ≡ early_code bytes.now }
+// Codes 1 to 5 of a file, and the table record of one that they let through.
+#[tactic(auto, using(crate::proofs::Codes::codes))]
+pub fn read_head(bytes: &[u8]) -> Result<Table, FileError>
+    ensures refusal { refused result ≡ without_place (early_code bytes.now) }
+    ensures table { IfOk result (λ t. t ≡ decode bytes.now) }
 {
     if bytes.len() < 8 {
-        return 1;
+        return Err(FileError::TooShort);
     }
     if !marked(bytes) {
-        return 2;
+        return Err(FileError::NoMark);
     }
     let head = Head::of(bytes);
-    let code = layout::head_code(head.version, head.n, head.m, head.k);
-    if code != 0 {
-        return code;
-    }
+    layout::check_head(head.version, head.n, head.m, head.k)?;
     if !reader::ends_with_trains(bytes) {
-        return 5;
+        return Err(FileError::WrongLength);
     }
-    0
-}
-
-// The table record of a file that codes 1 to 5 let through, else the empty one.
-pub fn table(bytes: &[u8]) -> Table
-    ensures { result ≡ table_in bytes.now }
-{
-    if early_code(bytes) != 0 {
-        return crate::empty_table();
-    }
-    reader::table(bytes)
+    Ok(reader::table(bytes))
 }

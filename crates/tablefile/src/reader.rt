@@ -1,11 +1,13 @@
 // The table reader (01, "Table file"): the lent bytes of a file together with the place of its next record. It is made behind the head;
 // its methods leave the work to functions of `records` on the slice and the place. The last three have plain parameters: whoever calls
 // them knows nothing of the reader.
+#![tactic(auto, using(crate::proofs::Parts::places))]
+
 ghost use Rattle.std.specs.Prelude.{◌≡◌, ◌+◌, ◌*◌, ◌≤◌, ◌<◌, ◌^◌, eqb, length};
-ghost use Rattle.rules.specs.File.{train_count, trains_from, decode};
+ghost use Rattle.rules.specs.File.{trains_from, file_length, decode, route_start, route_in};
 ghost use Rattle.tablefile.specs.Whole.{Whole, segments_of, boxes_of, trains_of, routes_of};
-ghost use Rattle.tablefile.specs.Places.{AtSegments, AtBoxes, AtTrains, TrainsAt};
-ghost use Rattle.tablefile.specs.Part.{RestOf};
+ghost use Rattle.tablefile.specs.Places.{AtSegments, AtBoxes, AtTrains, TrainsAt, HasTrain};
+ghost use Rattle.tablefile.specs.Part.{pointer_after, RestOf};
 
 use crate::head::Head;
 use crate::records;
@@ -129,18 +131,21 @@ pub(crate) fn table(bytes: &[u8]) -> Table
 }
 
 // The file ends where its last train record ends.
+#[tactic(auto, unfolding(rules::specs::File::file_length))]
 pub(crate) fn ends_with_trains(bytes: &[u8]) -> bool
     requires { 8 ≤ length bytes.now }
-    ensures { result ≡ eqb (length bytes.now) (trains_from bytes.now (train_count bytes.now)) }
+    ensures { result ≡ eqb (length bytes.now) (file_length bytes.now) }
 {
     behind_trains(bytes, Head::of(bytes).k).at_end()
 }
 
-// The file from the train record behind the first `count` of them on.
-pub(crate) fn from_train(bytes: &[u8], count: u8) -> &[u8]
-    requires long { 8 ≤ length bytes.now }
-    requires within { trains_from bytes.now count ≤ length bytes.now }
-    ensures { RestOf bytes.entry (trains_from bytes.now count) result }
+// The route of a train as a part of the file.
+pub(crate) fn route(bytes: &[u8], number: u8) -> &[u8]
+    requires { HasTrain bytes.now number }
+    ensures ref_ptr_value { result.ref_ptr ≡ pointer_after bytes.entry.ref_ptr (route_start bytes.now number) }
+    ensures result_value { result.now ≡ route_in bytes.now number }
 {
-    behind_trains(bytes, count).left()
+    let rest = behind_trains(bytes, number - 1).left();
+    let end = 2 + rest[1] as usize;
+    &rest[2..end]
 }

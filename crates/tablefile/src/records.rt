@@ -1,4 +1,6 @@
 // The records of a file, by its bytes and the place at which they begin. Places of the arrays beyond them are 0.
+#![tactic(auto, using(crate::proofs::Parts::records), unfolding(crate::specs::Whole::segments_of, crate::specs::Whole::boxes_of, crate::specs::Whole::trains_of, crate::specs::Whole::routes_of))]
+
 ghost use Rattle.std.specs.Prelude.{◌≡◌, ◌+◌, ◌*◌, ◌≤◌, ◌<◌, ◌^◌, eqb, length};
 ghost use Rattle.rules.specs.File.{segment_size, byte_at, trains_from, segment_from};
 ghost use Rattle.tablefile.specs.Whole.{segments_of, boxes_of, trains_of, routes_of};
@@ -111,6 +113,7 @@ fn byte_at(bytes: &[u8], i: usize) -> u8
 }
 
 // The place past the first `count` train records, of which the first begins at `from`. The file may end before it.
+#[tactic(auto, using(crate::proofs::Parts::records), unfolding(rules::specs::File::byte_at))]
 pub(crate) fn after_trains(bytes: &[u8], from: usize, count: u8) -> usize
     requires { TrainsAt bytes.now from }
     ensures { result ≡ trains_from bytes.now count }

@@ -1,12 +1,9 @@
--- A turn reads one train. The trains left are within the file.
-use Rattle.std.proofs.Common.{◌≡◌, ◌+◌, ◌-◌, ◌*◌, ◌≤◌, length}
+-- A turn reads one train.
+use Rattle.std.proofs.Common.{◌≡◌}
 use Rattle.rules.specs.Rows.{filled, list_of}
 use Rattle.rules.specs.Track.{no_train_plan}
 use Rattle.rules.specs.File.{trains_from, train_plan_in}
 use Rattle.tablefile.proofs.records.trains.Given as goal
 
 abbrev pub invariant-loop-i : goal.invariant-loop-i
-invariant-loop-i l =
-    (l.at + 2 * (l.k - l.i) ≤ length l.bytes)
-    × (l.at ≡ trains_from l.bytes l.i)
-    × (l.all ≡ filled 16 no_train_plan (list_of l.i (train_plan_in l.bytes)))
+invariant-loop-i l = (l.at ≡ trains_from l.bytes l.i) × (l.all ≡ filled 16 no_train_plan (list_of l.i (train_plan_in l.bytes)))

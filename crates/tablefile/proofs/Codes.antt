@@ -1,8 +1,8 @@
 -- Codes 1 to 5 by the tests that lead to them, the file's codes after them, and what a file without them has.
 use Rattle.std.proofs.Common.{ℕ, ◌≤◌, ◌<◌, ◌≡◌, ◌≢◌, refl, sym, ◌∙◌, ap, true, false, not, List, [], ◌∷◌, ◌++◌, eqb, length, arith}
-use borrow.Author.Tests.{le-ltb, ne_eqb}
+use borrow.Author.Tests.{le-ltb}
 use Rattle.rules.specs.Ends.{Refusal}
-use Rattle.rules.specs.Rows.{Row, ◌if◌, first}
+use Rattle.rules.specs.Rows.{◌if◌, first}
 use Rattle.rules.specs.Network.{head_rows, limits_fault}
 use Rattle.rules.specs.Placing.{without_place, table_code, parts_code, tells_place, parts_refusal, table_refusal}
 use Rattle.rules.specs.File.{marked, version_in, segment_count, box_count, train_count, file_length, file_code, file_refusal, decode, early_rows}

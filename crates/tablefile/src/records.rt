@@ -19,7 +19,11 @@ fn segment(bytes: &[u8], version: u16, at: usize) -> Segment
     Segment {
         a: bytes[at],
         b: bytes[at + 1],
-        way: if layout::has_ways(version) { bytes[at + 2] } else { 0 },
+        way: if layout::has_ways(version) {
+            bytes[at + 2]
+        } else {
+            0
+        },
     }
 }
 

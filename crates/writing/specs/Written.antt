@@ -3,6 +3,7 @@ use Rattle.std.specs.Prelude.{ℕ, ◌+◌, ◌≤◌, ◌<◌, ◌≡◌, List,
 use Rattle.std.proofs.lemmas.List.Edits.{sets}
 use Rattle.rules.specs.declared.Table.{Table}
 use Rattle.rules.specs.Track.{train_plan_at}
+use Rattle.writing.specs.declared.pen.Pen.{Pen}
 
 -- The records that a table counts have their places in it, and each route has its 64.
 pub record Bounded (t : Table) : Type 0 where
@@ -11,7 +12,13 @@ pub record Bounded (t : Table) : Type 0 where
   pub trains : t.k ≤ 16
   pub routes : (i : ℕ) → i < t.k → (train_plan_at t (i + 1)).length ≤ 64
 
--- The bytes w, stored from `at` on into the list d, make o; j is the place after them.
-pub record Written (d : List ℕ) (at : ℕ) (w : List ℕ) (j : ℕ) (o : List ℕ) : Type 0 where
-  pub next : j ≡ at + length w
-  pub bytes : o ≡ sets d at w
+-- A pen has room for so many bytes more.
+abbrev pub HasRoom : Pen → ℕ → Type 0
+HasRoom p n = p.at + n ≤ length p.buffer.now
+
+-- The bytes w, written by the pen p, make q: the same buffer with w stored from the place of p on, as long as it was, and the place after w.
+pub record Written (p : Pen) (w : List ℕ) (q : Pen) : Type 0 where
+  pub next : q.at ≡ p.at + length w
+  pub bytes : q.buffer.now ≡ sets p.buffer.now p.at w
+  pub size : length q.buffer.now ≡ length p.buffer.now
+  pub same : q.buffer.ghost_name ≡ p.buffer.ghost_name

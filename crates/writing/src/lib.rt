@@ -1,30 +1,30 @@
 // The writer: a table record to the bytes of its file, in a lent buffer, by the definitions `write_refusal` and `written` of `rules`.
 #![tactic(auto)]
 
+mod pen;
 mod records;
 
-ghost use Rattle.std.specs.Prelude.{◌≡◌, length};
+ghost use Rattle.std.specs.Prelude.{◌≡◌, ◌≤◌, length, sum_by};
 ghost use Rattle.rules.specs.File.{encode, write_refusal, written};
 
-use rules::{Refusal, Table};
+use pen::Pen;
+use rules::{Refusal, Table, TrainPlan};
+
+// How many bytes the routes of these trains have.
+fn route_bytes(plans: &[TrainPlan]) -> u16
+    requires { length plans.now ≤ 16 }
+    ensures { result ≡ sum_by (λ p. p.length) plans.now }
+{
+    plans.iter().map(|p| u16::from(p.length)).sum()
+}
 
 // The length of the file of a table record.
-pub fn file_size(t: Table) -> usize
-    ensures { result ≡ length (encode t) }
+pub fn file_size(t: &Table) -> usize
+    ensures { result ≡ length (encode t.now) }
 {
     let k = t.k as usize;
     let width = layout::segment_size(t.version) as usize;
-    let mut size = 8 + width * (t.n as usize) + 5 * (t.m as usize);
-    let mut i: usize = 0;
-    while i < k {
-        size += 2;
-        if i < 16 {
-            let p = t.trains[i];
-            size += p.length as usize;
-        }
-        i += 1;
-    }
-    size
+    8 + width * t.n as usize + 5 * t.m as usize + 2 * k + route_bytes(&t.trains[..k.min(16)]) as usize
 }
 
 // The writer: refused as the table is, then with 26; on success the file at the front of the buffer, else the buffer as it was.
@@ -36,10 +36,10 @@ pub fn write(t: Table, buffer: &mut [u8]) -> Refusal
     if refusal.code != 0 {
         return refusal;
     }
-    let size = file_size(t);
+    let size = file_size(&t);
     if buffer.len() < size {
         return placing::without_place(26);
     }
-    records::put_file(t, buffer);
+    records::put_file(&t, &mut Pen::new(buffer));
     placing::without_place(0)
 }

@@ -1,14 +1,8 @@
--- `put_boxes` meets its contract: after i turns the first i records stand from `at` up to j.
-use Prim.Native.Nat.{◌+◌, ◌-◌, ◌*◌, ◌≤◌}
-use mathlib.Core.Path.{◌≡◌}
-use lib.ListN.{length}
+-- The first records are written.
 use Rattle.rules.specs.Rows.{join_of}
 use Rattle.rules.specs.File.{box_bytes}
 use Rattle.writing.specs.Written.{Written}
 use Rattle.writing.proofs.records.put_boxes.Given as goal
 
-abbrev pub invariant-loop-i : goal.invariant-loop-i
-invariant-loop-i l = (l.i ≤ l.m) × (l.j ≡ l.at + 5 * l.i) × (length l.buffer ≡ length l.initial.buffer) × Written l.initial.buffer l.at (join_of l.i (box_bytes l.t)) l.j l.buffer
-
-abbrev pub decreases-loop-i : goal.decreases-loop-i
-decreases-loop-i l = l.m - l.i
+abbrev pub invariant-loop-p : goal.invariant-loop-p
+invariant-loop-p l = Written l.initial.pen (join_of l.p-index (box_bytes l.t)) l.pen

@@ -1,27 +1,22 @@
-use mathlib.Core.Path.{◌≡◌, refl, ◌∙◌}
-use native.Mathlib.Omega.{arith}
-use Rattle.writing.proofs.Laws.{written_join_none, written_segment, written-length, segment_fits}
+use Rattle.std.proofs.Common.{length, length-take, arith, ap}
+use Rattle.rules.specs.File.{segment_bytes, segment_size}
+use Rattle.writing.proofs.Laws.{written_join_none, written_join, join_within, segment_size_most, segment_bytes_lem}
 use Rattle.writing.proofs.records.put_segments.Goals as goal
 
-pub loop-i-init : goal.loop-i-init
-loop-i-init c = (omega arith, c.has_ways-wide.ensures, refl, written_join_none _ _ _)
+pub loop-s-init : goal.loop-s-init
+loop-s-init c = written_join_none _ _
 
-pub put_segment-j-requires : goal.put_segment-j-requires
-put_segment-j-requires c =
-    let head = c.loop-i in
-    let t = c.args.t in
-    omega (arith, segment_fits t head.i t.n head.invariant.1 (omega arith))
+pub slice_bounds-put-end : goal.slice_bounds-put-end
+slice_bounds-put-end c = rw c.segment_size-size.ensures (segment_size_most c.args.t.now.version)
 
-pub loop-i-preserved : goal.loop-i-preserved
-loop-i-preserved c =
-    let head = c.loop-i in
-    let put = c.put_segment-j.ensures in
-    (omega arith, head.invariant.1, written-length put ∙ head.invariant.2, written_segment _ head.i head.invariant.1 head.invariant.3 put)
+pub slice_bounds-put-end-in-loop-s : goal.slice_bounds-put-end-in-loop-s
+slice_bounds-put-end-in-loop-s c = simp length-take (rw c.segment_size-size.ensures (omega (arith, segment_size_most c.args.t.now.version)))
 
-pub shape_of-buffer : goal.shape_of-buffer
-shape_of-buffer c = c.loop-i.invariant.2
+pub put-requires : goal.put-requires
+put-requires c =
+    let t = c.args.t.now in
+    let i = c.loop-s.s-index in
+    rw c.segment_size-size.ensures (omega (arith, join_within (segment_bytes t) i t.n (omega arith), ap length (segment_bytes_lem t i (omega arith))))
 
-pub returns : goal.returns
-returns c =
-    let e : c.loop-i.i ≡ c.args.t.n = omega arith in
-    rw e at c.loop-i.invariant.3
+pub loop-s-preserved : goal.loop-s-preserved
+loop-s-preserved c = written_join _ _ c.loop-s.invariant (segment_bytes_lem _ _ (omega arith)) (rw c.segment_size-size.ensures at c.put.ensures)

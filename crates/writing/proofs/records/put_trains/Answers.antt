@@ -1,31 +1,34 @@
-use mathlib.Core.Path.{◌≡◌, refl, ◌∙◌}
-use native.Mathlib.Omega.{arith}
-use Rattle.writing.proofs.Laws.{written_join_none, written-train, written-length, train-fits, route_bounded}
+use Rattle.std.proofs.Common.{◌≡◌, length, length-take, length-drop, arith, ap, rules}
+use Rattle.rules.specs.File.{train_bytes}
+use Rattle.writing.proofs.Laws.{written_append, written_join_none, written_join, join_within, train_bytes_lem, plan_bounded}
 use Rattle.writing.proofs.records.put_trains.Goals as goal
 
 pub loop-i-init : goal.loop-i-init
-loop-i-init c = (omega arith, refl, written_join_none _ _ _)
+loop-i-init c = written_join_none _ _
 
-pub put_train-j-requires : goal.put_train-j-requires
-put_train-j-requires c =
-    let t = c.args.t in
+pub put-requires : goal.put-requires
+put-requires c =
+    let t = c.args.t.now in
     let i = c.loop-i.i in
-    record {
-      i_bound = omega arith;
-      length_bound = route_bounded t i c.requires.bounded (omega arith);
-      length_in_bounds = omega (arith, train-fits t i t.k (omega arith));
-    }
+    let e : length t.routes ≡ 1024 = search rules in
+    let r = train_bytes_lem t i c.requires.bounded (omega arith) e in
+    omega (arith, join_within (train_bytes t) i t.k (omega arith), ap length r)
+
+pub slice_bounds-put-end-in-loop-i-2 : goal.slice_bounds-put-end-in-loop-i-2
+slice_bounds-put-end-in-loop-i-2 c =
+    let t = c.args.t.now in
+    let e : length t.routes ≡ 1024 = search rules in
+    let b = plan_bounded t c.loop-i.i c.requires.bounded (omega arith) in
+    simp (length-take, length-drop) (omega (arith, c.requires.bounded.trains))
+
+pub put-requires-in-loop-i : goal.put-requires-in-loop-i
+put-requires-in-loop-i c =
+    let t = c.args.t.now in
+    let i = c.loop-i.i in
+    let e : length t.routes ≡ 1024 = search rules in
+    let r = train_bytes_lem t i c.requires.bounded (omega arith) e in
+    omega (arith, join_within (train_bytes t) i t.k (omega arith), ap length r)
 
 pub loop-i-preserved : goal.loop-i-preserved
 loop-i-preserved c =
-    let head = c.loop-i in
-    let put = c.put_train-j.ensures in
-    (omega arith, written-length put ∙ head.invariant.1, written-train _ head.i head.invariant.2 put)
-
-pub shape_of-buffer : goal.shape_of-buffer
-shape_of-buffer c = c.loop-i.invariant.1
-
-pub returns : goal.returns
-returns c =
-    let e : c.loop-i.i ≡ c.args.t.k = omega arith in
-    rw e at c.loop-i.invariant.2
+    written_join _ _ c.loop-i.invariant (train_bytes_lem _ _ c.requires.bounded (omega arith) (search rules)) (written_append c.put.ensures c.put-in-loop-i.ensures)

@@ -136,8 +136,8 @@ trains_length t n h e =
     ])
 
 -- A table of code 0 has its records within their places.
-code-bounded : (t : Table) → table_code t ≡ 0 → Bounded t
-code-bounded t e =
+code_bounded : (t : Table) → table_code t ≡ 0 → Bounded t
+code_bounded t e =
     let a = accepted t e in
     record {
       segments = a.limits.segments_high;
@@ -146,30 +146,34 @@ code-bounded t e =
       routes = λ i h. (a.routes (i + 1) (record { low = omega arith; high = omega arith })).high;
     }
 
--- A table by what a function answered for it.
-pub bounded : (t : Table) (y : Refusal) → y ≡ table_refusal t → y.code ≡ 0 → Bounded t
-bounded t y e z = code-bounded t (sym (table_coded t) ∙ code_of (sym e) ∙ z)
+-- A table that is not refused.
+module _ (t : Table) (e : without_place 0 ≡ table_refusal t) where
+  table_zero : (table_refusal t).code ≡ 0
+  table_zero = sym (code_of e)
 
--- What the writer answers, x, and its buffer: a table that is not accepted, a buffer that is too short, and a file written.
-module _ (t : Table) (buffer : List ℕ) (x y : Refusal) (e : y ≡ table_refusal t) where
-  pub refused : (y.code ≡ 0 → ⊥) → x ≡ y → (x ≡ write_refusal t buffer) × (buffer ≡ written t buffer)
-  unfolding write_refusal written
-  refused h is =
-      let other : (table_refusal t).code ≢ 0 = λ z. h (code_of e ∙ z) in
-      let same = then_refused (table_refusal t) (26 if ltb (length buffer) (length (encode t)) ∷ []) other in
-      (is ∙ e ∙ sym same, rw (same, ne_eqb (table_refusal t).code 0 other))
+  pub bounded : Bounded t
+  bounded = code_bounded t (sym (table_coded t) ∙ table_zero)
 
-  -- Past the table's code the row of 26 decides.
-  module _ (z : y.code ≡ 0) where
-    table_zero : (table_refusal t).code ≡ 0
-    table_zero = code_of (sym e) ∙ z
+  -- A buffer that is too short, and one that is not.
+  pub short_refused : (buffer : List ℕ) → length buffer < length (encode t) → without_place 26 ≡ write_refusal t buffer
+  unfolding write_refusal
+  short_refused buffer h = sym (then_hit (table_refusal t) table_zero 26 _ (lt-ltb _ _ h))
 
-    pub too_short : length buffer < length (encode t) → x ≡ without_place 26 → (x ≡ write_refusal t buffer) × (buffer ≡ written t buffer)
-    unfolding write_refusal written
-    too_short h is = rw (then_hit (table_refusal t) table_zero 26 _ (lt-ltb _ _ h)) (is, refl)
+  pub none_refused : (buffer : List ℕ) → length (encode t) ≤ length buffer → without_place 0 ≡ write_refusal t buffer
+  unfolding write_refusal
+  none_refused buffer h = sym (then_none (table_refusal t) table_zero 26 _ (le-ltb _ _ h))
 
-    pub file_written : {p q : Pen} → length (encode t) ≤ length buffer → p.at ≡ 0 → p.buffer.now ≡ buffer → Written p (encode t) q → x ≡ without_place 0
-        → (x ≡ write_refusal t buffer) × (q.buffer.now ≡ written t buffer)
-    unfolding write_refusal written
-    file_written h z e w is =
-        rw (then_none (table_refusal t) table_zero 26 _ (le-ltb _ _ h)) (is, rw e at (written_whole w z (rw e h)))
+-- A table that is refused refuses the writer.
+pub table_refused : (t : Table) (buffer : List ℕ) {x : Refusal} → x ≡ table_refusal t → x.code ≢ 0 → x ≡ write_refusal t buffer
+unfolding write_refusal
+table_refused t buffer e h =
+    e ∙ sym (then_refused (table_refusal t) (26 if ltb (length buffer) (length (encode t)) ∷ []) (rw e at h))
+
+-- The buffer after it: as it was where it is refused, else with the file at its front.
+pub buffer_kept : (t : Table) (buffer : List ℕ) {x : Refusal} → x ≡ write_refusal t buffer → x.code ≢ 0 → buffer ≡ written t buffer
+unfolding written
+buffer_kept t buffer {x} e h = rw (ne_eqb (write_refusal t buffer).code 0 (rw e at h))
+
+pub file_written : (t : Table) {p q : Pen} → without_place 0 ≡ write_refusal t p.buffer.now → p.at ≡ 0 → length (encode t) ≤ length p.buffer.now → Written p (encode t) q → q.buffer.now ≡ written t p.buffer.now
+unfolding written
+file_written t e z h w = rw (sym e) (written_whole w z h)

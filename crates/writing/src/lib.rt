@@ -5,10 +5,11 @@ mod pen;
 mod records;
 
 ghost use Rattle.std.specs.Prelude.{◌≡◌, ◌≤◌, length, sum_by};
+ghost use Rattle.rules.specs.Errors.{refused};
 ghost use Rattle.rules.specs.File.{encode, write_refusal, written};
 
-use pen::Pen;
-use rules::{Refusal, Table, TrainPlan};
+pub use pen::Pen;
+use rules::{FileError, Table, TrainPlan};
 
 // How many bytes the routes of these trains have.
 fn route_bytes(plans: &[TrainPlan]) -> u16
@@ -28,18 +29,15 @@ pub fn file_size(t: &Table) -> usize
 }
 
 // The writer: refused as the table is, then with 26; on success the file at the front of the buffer, else the buffer as it was.
-pub fn write(t: Table, buffer: &mut [u8]) -> Refusal
-    ensures value { result ≡ write_refusal t buffer.old }
-    ensures buffer_after { buffer.new ≡ written t buffer.old }
+pub fn write(table: &Table, buffer: &mut [u8]) -> Result<(), FileError>
+    ensures value { refused result ≡ write_refusal table.now buffer.old }
+    ensures buffer_after { buffer.new ≡ written table.now buffer.old }
 {
-    let refusal = layout::table_refusal(t);
-    if refusal.code != 0 {
-        return refusal;
+    layout::check_table(table)?;
+    if buffer.len() < file_size(table) {
+        return Err(FileError::NoRoom);
     }
-    let size = file_size(&t);
-    if buffer.len() < size {
-        return placing::without_place(26);
-    }
-    records::put_file(&t, &mut Pen::new(buffer));
-    placing::without_place(0)
+    let mut pen = Pen::new(buffer);
+    records::put_file(table, &mut pen);
+    Ok(())
 }

@@ -54,6 +54,7 @@ fn put_trains(t: &Table, pen: &mut Pen)
 }
 
 // The file.
+#[tactic(auto, using(crate::proofs::Laws::encode_length, crate::proofs::Laws::written_file))]
 pub(crate) fn put_file(t: &Table, pen: &mut Pen)
     requires bounded { Bounded t.now }
     requires room { HasRoom pen.old (length (encode t.now)) }

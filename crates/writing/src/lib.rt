@@ -25,7 +25,10 @@ pub fn file_size(t: &Table) -> usize
 {
     let k = t.k as usize;
     let width = layout::segment_size(t.version) as usize;
-    8 + width * t.n as usize + 5 * t.m as usize + 2 * k + route_bytes(&t.trains[..k.min(16)]) as usize
+    8 + width * t.n as usize
+        + 5 * t.m as usize
+        + 2 * k
+        + route_bytes(&t.trains[..k.min(16)]) as usize
 }
 
 // The writer: refused as the table is, then with 26; on success the file at the front of the buffer, else the buffer as it was.

@@ -1,5 +1,4 @@
-use Rattle.std.proofs.Common.{◌≡◌, Err, rules, arith, ◌∙◌, sym, ap}
-use Rattle.rules.specs.Errors.{refused}
+use Rattle.std.proofs.Common.{◌≡◌, Err, rules, arith}
 use Rattle.rules.specs.File.{write_refusal, written}
 use Rattle.rules.specs.Placing.{without_place}
 use Rattle.rules.proofs.Coded.{file_coded}

@@ -1,5 +1,5 @@
 use Rattle.std.proofs.Common.{length, length-take, arith, ap}
-use Rattle.rules.specs.File.{segment_bytes, segment_size}
+use Rattle.rules.specs.File.{segment_bytes}
 use Rattle.writing.proofs.Laws.{written_join_none, written_join, join_within, segment_size_most, segment_bytes_lem}
 use Rattle.writing.proofs.records.put_segments.Goals as goal
 

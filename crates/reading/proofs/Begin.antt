@@ -1,14 +1,7 @@
 -- The start of a line, train after train and box after box.
-use Prim.Native.Nat.{ℕ, ◌+◌, ◌-◌, ◌≤◌, ◌<◌}
-use mathlib.Core.Path.{◌≡◌, refl, sym, ◌∙◌, ap}
-use mathlib.Core.Bool.{Bool, true, false, cond, false≢true}
-use mathlib.Core.List.{List, ◌++◌}
+use Rattle.std.proofs.Common.{ℕ, ◌+◌, ◌-◌, ◌≤◌, ◌<◌, ◌≡◌, refl, sym, ◌∙◌, ap, Bool, true, false, cond, List, ◌++◌, add-one, arith, eq-eqb, ne_eqb, eqb, length, get_or, set, take, replicate, length-set}
+use Rattle.std.proofs.lemmas.Bool.{false≢true}
 use native.Mathlib.Decide.{ℕ_discrete}
-use native.Mathlib.Numerals.{add-one}
-use native.Mathlib.Omega.{arith}
-use borrow.Author.Tests.{eq-eqb, ne_eqb}
-use lib.Dec.{eqb}
-use lib.ListN.{length, get_or, set, take, replicate, length-set}
 use lib.Seq.{ext_get_or, get_or-set_same, get_or-set_other, take-set-lt, set-append_left}
 use Rattle.rules.specs.declared.BoxPlan.{BoxPlan}
 use Rattle.rules.specs.declared.TrainPlan.{TrainPlan}
@@ -172,9 +165,3 @@ pub start_line_lem : (t : Table) (track : Track) (b : List SwitchBox) (r : List 
     record { table = t; boxes = b; trains = r; routes = t.routes } ≡ start_line t
 unfolding start_line start_box boxes_after
 start_line_lem t track b r made e f = rw (e, f, made)
-
--- A box that is not outside a table is one of its boxes.
-pub within : {m at : ℕ} {b : Bool} → b ≡ outside m at → b ≡ false → m ≤ 96 → (1 ≤ at) × (at ≤ 96)
-within {m} {at} e f h =
-    let (low, high) = (outside-false_iff m at).0 (sym e ∙ f) in
-    (low, omega arith)

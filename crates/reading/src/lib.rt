@@ -46,8 +46,8 @@ pub fn read(bytes: &[u8]) -> FileOutcome
             line: empty::line(),
         };
     }
-    let boxes = start::boxes(table.m, table.k, plans, train_plans, &table.routes, &a, &b);
-    let trains = start::trains(table.k, train_plans);
+    let boxes = start::boxes(table.m, table.k, &table.boxes, &table.trains, &table.routes, &a, &b);
+    let trains = start::trains(table.k, &table.trains);
     let routes = table.routes;
     FileOutcome {
         refusal: placing::without_place(0),

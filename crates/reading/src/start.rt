@@ -1,13 +1,12 @@
-// The boxes and the trains of the line at its start, by the parts of a table and by the boxes at the A ends and at the B ends of its
-// segments.
+// The boxes and the trains of the line at its start, by a table and columns.
 ghost use Rattle.std.specs.Prelude.{◌≡◌, ◌≤◌};
 ghost use Rattle.rules.specs.Rows.{list_of, filled};
 ghost use Rattle.rules.specs.Track.{track_in};
 ghost use Rattle.rules.specs.Line.{no_box, no_train, start_train};
 ghost use Rattle.reading.specs.Start.{free_box_at, boxes_after};
 
-use rules::{BoxPlan, SwitchBox, Train, TrainPlan};
-use traincomputer::sight;
+use columns::Columns;
+use rules::{BoxPlan, SwitchBox, Table, Train, TrainPlan};
 
 // The trains: single on their first segments, nothing recorded, no message.
 pub(crate) fn trains(k: u8, plans: &[TrainPlan; 16]) -> [Train; 16]
@@ -44,28 +43,20 @@ fn free_boxes(m: u8, plans: &[BoxPlan; 96]) -> [SwitchBox; 96]
 
 // The boxes, with the first segment of each train reserved at the box ahead of it.
 #[tactic(auto, unfolding(rules::specs::Rows::outside))]
-pub(crate) fn boxes(
-    m: u8,
-    k: u8,
-    plans: &[BoxPlan; 96],
-    trains: &[TrainPlan; 16],
-    routes: &[u8; 1024],
-    a: &[u8; 256],
-    b: &[u8; 256],
-) -> [SwitchBox; 96]
-    requires m_bound { m ≤ 96 }
-    requires k_bound { k ≤ 16 }
-    ensures { result ≡ boxes_after m (track_in a.now b.now) plans.now trains.now routes.now k }
+pub(crate) fn boxes(table: &Table, columns: &Columns) -> [SwitchBox; 96]
+    requires m_bound { table.now.m ≤ 96 }
+    requires k_bound { table.now.k ≤ 16 }
+    ensures { result ≡ boxes_after table.now.m (track_in columns.now.a columns.now.b) table.now.boxes table.now.trains table.now.routes table.now.k }
 {
-    let mut all = free_boxes(m, plans);
-    for i in 0..k {
-        let plan = trains[usize::from(i)];
+    let mut all = free_boxes(table.m, &table.boxes);
+    for i in 0..table.k {
+        let plan = table.trains[usize::from(i)];
         let number = i + 1;
-        let first = placing::segment_at(routes, number, 1);
-        let ahead = sight::far(plan.direction, first, a, b);
-        if !network::outside(m, ahead) {
+        let first = placing::segment_at(&table.routes, number, 1);
+        let ahead = columns.far(plan.direction, first);
+        if !network::outside(table.m, ahead) {
             let at = usize::from(ahead - 1);
-            all[at] = switchbox::set_holder(plans[at], all[at], first, number);
+            all[at] = switchbox::set_holder(table.boxes[at], all[at], first, number);
         }
     }
     all

@@ -2,7 +2,7 @@
 pub mod Running
 -- What stands around each train, kept.
 pub mod Views
--- A step as a program takes it, and one turn of the loop over steps.
+-- A step as a program takes it.
 pub mod Turn
 -- The ends of a run.
 pub mod Runs

@@ -1,12 +1,8 @@
 -- What holds while the steps of a run are taken: what is left to do from here ends in what there was to do from the start.
-use Prim.Native.Nat.{ℕ, ◌+◌, ◌*◌, ◌/◌, ◌%◌, ◌≤◌, ◌<◌}
-use mathlib.Core.Path.{◌≡◌, refl, sym, ◌∙◌, ap}
-use mathlib.Core.List.{List, [], ◌∷◌, ◌++◌, append-nil}
-use native.Mathlib.Numerals.{add-one}
-use native.Mathlib.Omega.{arith}
-use borrow.Author.Tests.{eq-eqb, ne_eqb}
-use lib.ListN.{length, get_or, set, take, drop, length-set, take-append-drop}
-use lib.Seq.{take-suc-set, drop-set-lt, set_split, drop-drop, append_snoc}
+use Rattle.std.proofs.Common.{ℕ, zero, suc, ◌+◌, ◌*◌, ◌/◌, ◌%◌, ◌≤◌, ◌<◌, ◌≡◌, refl, sym, ◌∙◌, ap, List, [], ◌∷◌, ◌++◌, append-nil, add-one, arith, eq-eqb, ne_eqb, length, get_or, set, take, drop, length-set, take-append-drop, take-suc-set, drop-set-lt, drop-drop, get_or-take, get_or-drop}
+use Rattle.std.proofs.lemmas.List.{set_split}
+use Rattle.std.specs.Simd.{first_chunks}
+use lib.Seq.{append_snoc}
 use Rattle.rules.specs.declared.Line.{Line}
 use Rattle.rules.specs.declared.Outcome.{Outcome}
 use Rattle.rules.specs.Steps.{Step}
@@ -17,6 +13,19 @@ use Rattle.rules.specs.Run.{whole_steps, step_count, answers_of, partial_answer,
 -- The step with index n of a list of bytes.
 abbrev pub step_at : List ℕ → ℕ → Step
 step_at bytes n = record { kind = get_or bytes (3 * n) 0; train = get_or bytes (3 * n + 1) 0; box = get_or bytes (3 * n + 2) 0 }
+
+-- Cut into chunks of three, the bytes have it at n.
+chunk_at : (bytes : List ℕ) (k n j : ℕ) → n < k → j < 3 → get_or (get_or (first_chunks 3 k bytes) n []) j 0 ≡ get_or bytes (3 * n + j) 0
+chunk_at bytes zero n j h low = absurd (omega arith)
+chunk_at bytes (suc k) zero j h low = get_or-take 3 bytes j 0 low ∙ ap (λ (i : ℕ). get_or bytes i 0) (omega arith)
+chunk_at bytes (suc k) (suc n) j h low =
+    chunk_at (drop 3 bytes) k n j (omega arith) low ∙ get_or-drop 3 bytes (3 * n + j) 0 ∙ ap (λ (i : ℕ). get_or bytes i 0) (omega arith)
+
+pub chunk-step : {chunks : List (List ℕ)} (bytes : List ℕ) (k n : ℕ) → chunks ≡ first_chunks 3 k bytes → n < k
+    → record { kind = get_or (get_or chunks n []) 0 0; train = get_or (get_or chunks n []) 1 0; box = get_or (get_or chunks n []) 2 0 } ≡ step_at bytes n
+chunk-step bytes k n is h =
+    let kind : 3 * n + 0 ≡ 3 * n = omega arith in
+    rw (is, chunk_at bytes k n 0 h (omega arith), chunk_at bytes k n 1 h (omega arith), chunk_at bytes k n 2 h (omega arith), kind) refl
 
 -- What two lists share from index n on they share from the next on.
 drop_more : (xs ys : List ℕ) (n : ℕ) → drop n xs ≡ drop n ys → drop (n + 1) xs ≡ drop (n + 1) ys

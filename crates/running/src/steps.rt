@@ -1,189 +1,151 @@
 // Steps of three bytes, one after the other.
 ghost use Rattle.std.specs.Prelude.{◌≡◌, ◌-◌, ◌≤◌, ◌<◌, ◌++◌, length, drop};
+ghost use Rattle.rules.specs.declared.Line.{Line};
 ghost use Rattle.rules.specs.Steps.{step};
 ghost use Rattle.rules.specs.History.{line_after};
 ghost use Rattle.rules.specs.Safety.{StaysSound};
 ghost use Rattle.rules.specs.Run.{whole_steps, step_count, answers_from};
 ghost use Rattle.traincomputer.specs.Sight.{around_in};
-ghost use Rattle.running.specs.Loop.{Columns, standing, Seen};
+ghost use Rattle.running.specs.Loop.{Kept, Seen, step_answer};
 
+use columns::Columns;
 use deciding::moves::{clear, enter};
 use deciding::requests::answer;
-use rules::{Around, Effect, SwitchBox, Table, Train};
+use deciding::{alone, check_form};
+use rules::{Around, Line, StepError, SwitchBox};
+use std::marker::Model;
 use traincomputer::sight::around;
+use traincomputer::{Computer, message_box};
 
-// What steps change of a line: its boxes and trains.
-#[derive(Clone, Copy)]
-pub(crate) struct Moved {
-    pub boxes: [SwitchBox; 96],
-    pub trains: [Train; 16],
+// A line on its way through steps, with the columns of its table. What stands around each train is kept, and made anew for a train that
+// has moved. 27 finds nothing on the line, now and after any steps, so that every box that a step concerns is there.
+#[derive(Drop)]
+struct Moving {
+    line: Line,
+    columns: Columns,
+    seen: [Around; 16],
 }
 
-// The index of a train's record, and of a box's.
-fn train_index(train: u8) -> usize
-    requires le_train { 1 ≤ train }
-    requires train_bound { train ≤ 16 }
-    ensures value { result ≡ train - 1 }
-    ensures upper_bound { result < 16 }
-{
-    (train - 1) as usize
+impl Model for Moving {
+    ghost Value = { Line };
+
+    ghost view = { λ m. m.line };
+
+    ghost invariant = { λ m. Kept m.columns m.line m.seen };
 }
 
-fn box_index(number: u8) -> usize
-    requires le_number { 1 ≤ number }
-    requires number_bound { number ≤ 96 }
+// The index of the record with this number, of at most N.
+fn index<const N: u8>(number: u8) -> usize
+    requires low { 1 ≤ number }
+    requires high { number ≤ N }
     ensures value { result ≡ number - 1 }
-    ensures upper_bound { result < 96 }
+    ensures within { result < N }
 {
-    (number - 1) as usize
+    usize::from(number - 1)
 }
 
 // What stands around each train, by its index.
-fn views(
-    trains: [Train; 16],
-    routes: &[u8; 1024],
-    a: &[u8; 256],
-    b: &[u8; 256],
-    ways: &[u8; 256],
-    kinds: &[u8; 256],
-) -> [Around; 16]
-    ensures { Seen (around_in a.now b.now ways.now kinds.now routes.now) trains result 16 }
+fn views(line: &Line, columns: &Columns) -> [Around; 16]
+    ensures { Seen (around_in columns.now.a columns.now.b columns.now.ways columns.now.kinds line.now.routes) line.now.trains result 16 }
 {
-    let mut all = [Around {
-        number: 0,
-        front: 0,
-        next: 0,
-        tail: 0,
-        second: 0,
-        against: false,
-        ahead: 0,
-        point: false,
-        nearEnd: 0,
-        farEnd: 0,
-        passed: 0,
-    }; 16];
-    let mut number: u8 = 0;
-    while number < 16 {
-        let i = number as usize;
-        number += 1;
-        let v = around(number, trains[i], routes, a, b, ways, kinds);
-        all[i] = v;
+    let mut all = [Around::default(); 16];
+    for (i, train) in line.trains.iter().enumerate() {
+        all[i] = around(i as u8 + 1, *train, &line.routes, columns);
     }
     all
 }
 
-// Takes all steps from a line on, with these boxes, trains and routes, and puts their codes into the buffer. What stands around each
-// train is kept, and made anew for the train that has moved. The columns are those of the table. 27 finds nothing on the line, now and
-// after any steps, so that every box that a step concerns is there. Records are copied in the arm that uses them.
-pub(crate) fn advance(
-    table: Table,
-    mut boxes: [SwitchBox; 96],
-    mut trains: [Train; 16],
-    routes: &[u8; 1024],
-    steps: &[u8],
-    answers: &mut [u8],
-    a: &[u8; 256],
-    b: &[u8; 256],
-    ways: &[u8; 256],
-    kinds: &[u8; 256],
-) -> Moved
-    requires steps_in_bounds { step_count steps.now ≤ length answers.old }
-    requires columns { Columns table a.now b.now ways.now kinds.now }
-    requires stays_sound { StaysSound (standing table boxes trains routes.now) }
-    ensures routes_value { standing table result.boxes result.trains routes.now ≡ line_after step (standing table boxes trains routes.now) (whole_steps steps.now) }
-    ensures answers_after { answers.new ≡ answers_from step (standing table boxes trains routes.now) steps.now ++ drop (step_count steps.now) answers.old }
-{
-    let k = table.k;
-    let mut seen = views(trains, routes, a, b, ways, kinds);
-    let whole = steps.len() / 3;
-    let mut n: usize = 0;
-    while n < whole {
-        let at = 3 * n;
-        let index = n;
-        n += 1;
-        let kind = steps[at];
-        let train = steps[at + 1];
-        let number = steps[at + 2];
-        let form = deciding::form_code(kind, number);
-        if form != 0 {
-            answers[index] = form;
-        } else if network::outside(k, train) {
-            answers[index] = 14;
-        } else {
-            let i = train_index(train);
-            match kind {
-                3 => {
-                    let r = trains[i];
-                    let message = r.message;
-                    let asked = traincomputer::message_box(message);
-                    if asked == 0 {
-                        answers[index] = 21;
-                    } else {
-                        let j = box_index(asked);
-                        let d = answer(seen[i], trains[i], table.boxes[j], boxes[j]);
-                        match d {
-                            Effect::Refused(code) => {
-                                answers[index] = code;
-                            }
-                            Effect::Changed(code, train_after, box_after) => {
-                                answers[index] = code;
-                                trains[i] = train_after;
-                                boxes[j] = box_after;
-                            }
-                        }
-                    }
+impl Moving {
+    fn new(line: Line) -> Moving
+        requires { StaysSound line }
+        ensures { result ≡ line }
+    {
+        let columns = Columns::of(&line.table);
+        let seen = views(&line, &columns);
+        Moving {
+            line,
+            columns,
+            seen,
+        }
+    }
+
+    // Takes one step, and gives its code. Records are copied in the arm that uses them.
+    fn take(&mut self, kind: u8, train: u8, at: u8) -> Result<u8, StepError>
+        ensures { record { code = step_answer result; line = self.new } ≡ step self.old (record { kind = kind; train = train; box = at }) }
+    {
+        check_form(kind, at)?;
+        if network::outside(self.line.table.k, train) {
+            return Err(StepError::NoSuchTrain);
+        }
+        let i = index::<16>(train);
+        match kind {
+            3 => {
+                let asked = message_box(self.line.trains[i].message);
+                if asked == 0 {
+                    return Err(StepError::NothingUnderWay);
                 }
-                5 => {
-                    let v = seen[i];
-                    let j = box_index(v.ahead);
-                    let d = enter(v, trains[i], boxes[j]);
-                    match d {
-                        Effect::Refused(code) => {
-                            answers[index] = code;
-                        }
-                        Effect::Changed(code, train_after, box_after) => {
-                            answers[index] = code;
-                            trains[i] = train_after;
-                            boxes[j] = box_after;
-                            let anew = around(train, train_after, routes, a, b, ways, kinds);
-                            seen[i] = anew;
-                        }
-                    }
-                }
-                6 => {
-                    let v = seen[i];
-                    let j = box_index(v.passed);
-                    let d = clear(v, trains[i], table.boxes[j], boxes[j]);
-                    match d {
-                        Effect::Refused(code) => {
-                            answers[index] = code;
-                        }
-                        Effect::Changed(code, train_after, box_after) => {
-                            answers[index] = code;
-                            trains[i] = train_after;
-                            boxes[j] = box_after;
-                            let anew = around(train, train_after, routes, a, b, ways, kinds);
-                            seen[i] = anew;
-                        }
-                    }
-                }
-                _ => {
-                    let d = deciding::alone(kind, number, seen[i], trains[i], deciding::no_box());
-                    match d {
-                        Effect::Refused(code) => {
-                            answers[index] = code;
-                        }
-                        Effect::Changed(code, train_after, _) => {
-                            answers[index] = code;
-                            trains[i] = train_after;
-                        }
-                    }
-                }
+                let j = index::<96>(asked);
+                let computer = Computer {
+                    around: self.seen[i],
+                    train: self.line.trains[i],
+                };
+                let done = answer(computer, self.line.table.boxes[j], self.line.boxes[j])?;
+                self.line.trains[i] = done.train;
+                self.line.boxes[j] = done.switchbox;
+                Ok(done.code)
+            }
+            5 => {
+                let computer = Computer {
+                    around: self.seen[i],
+                    train: self.line.trains[i],
+                };
+                let j = index::<96>(computer.around.ahead);
+                let done = enter(computer, self.line.boxes[j])?;
+                self.line.trains[i] = done.train;
+                self.line.boxes[j] = done.switchbox;
+                self.seen[i] = around(train, done.train, &self.line.routes, &self.columns);
+                Ok(done.code)
+            }
+            6 => {
+                let computer = Computer {
+                    around: self.seen[i],
+                    train: self.line.trains[i],
+                };
+                let j = index::<96>(computer.around.passed);
+                let done = clear(computer, self.line.table.boxes[j], self.line.boxes[j])?;
+                self.line.trains[i] = done.train;
+                self.line.boxes[j] = done.switchbox;
+                self.seen[i] = around(train, done.train, &self.line.routes, &self.columns);
+                Ok(done.code)
+            }
+            _ => {
+                let computer = Computer {
+                    around: self.seen[i],
+                    train: self.line.trains[i],
+                };
+                let done = alone(kind, at, computer, SwitchBox::default())?;
+                self.line.trains[i] = done.train;
+                Ok(done.code)
             }
         }
     }
-    if 3 * whole < steps.len() {
-        answers[whole] = 13;
+}
+
+// Takes all steps from a line on, and puts their codes into the buffer.
+#[tactic(auto, unfolding(rules::specs::Run::step_count))]
+pub(crate) fn advance(line: Line, steps: &[u8], answers: &mut [u8]) -> Line
+    requires steps_in_bounds { step_count steps.now ≤ length answers.old }
+    requires stays_sound { StaysSound line }
+    ensures line { result ≡ line_after step line (whole_steps steps.now) }
+    ensures answers_after { answers.new ≡ answers_from step line steps.now ++ drop (step_count steps.now) answers.old }
+{
+    let mut moving = Moving::new(line);
+    let (whole, partial) = steps.as_chunks::<3>();
+    for (n, &[kind, train, at]) in whole.iter().enumerate() {
+        answers[n] = moving.take(kind, train, at).unwrap_or_else(StepError::code);
     }
-    Moved { boxes, trains }
+    if !partial.is_empty() {
+        answers[whole.len()] = StepError::Malformed.code();
+    }
+    moving.line
 }

@@ -5,4 +5,4 @@ use Rattle.reading.specs.Start.{boxes_after}
 use Rattle.reading.proofs.start.boxes.Given as goal
 
 abbrev pub invariant-loop-i : goal.invariant-loop-i
-invariant-loop-i l = l.all ≡ boxes_after l.m (track_in l.a l.b) l.plans l.trains l.routes l.i
+invariant-loop-i l = l.all ≡ boxes_after l.table.m (track_in l.columns.a l.columns.b) l.table.boxes l.table.trains l.table.routes l.i

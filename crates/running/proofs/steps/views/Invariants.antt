@@ -1,11 +1,7 @@
 -- Each turn looks up one.
-use Prim.Native.Nat.{◌-◌, ◌≤◌}
 use Rattle.traincomputer.specs.Sight.{around_in}
 use Rattle.running.specs.Loop.{Seen}
 use Rattle.running.proofs.steps.views.Given as goal
 
-abbrev pub invariant-loop-number : goal.invariant-loop-number
-invariant-loop-number l = (l.number ≤ 16) × Seen (around_in l.a l.b l.ways l.kinds l.routes) l.trains l.all l.number
-
-abbrev pub decreases-loop-number : goal.decreases-loop-number
-decreases-loop-number l = 16 - l.number
+abbrev pub invariant-loop-i : goal.invariant-loop-i
+invariant-loop-i l = Seen (around_in l.columns.a l.columns.b l.columns.ways l.columns.kinds l.line.routes) l.line.trains l.all l.i

@@ -20,12 +20,12 @@ use Rattle.reading.specs.Start.{boxes_after}
 use Rattle.reading.proofs.Begin.{start_line_lem}
 
 module _ (bytes : List ℕ) where
-  refused_line : {e : FileError} → refusal_of e ≡ file_refusal bytes → outcome (Err e) ≡ read bytes
+  refused_line : (e : FileError) → refusal_of e ≡ file_refusal bytes → outcome (Err e) ≡ read bytes
   unfolding read
-  refused_line {e} is = rw (is, ne_eqb (file_code bytes) 0 (λ z. error_coded e (code_of is ∙ file_coded bytes ∙ z)))
+  refused_line e is = rw (is, ne_eqb (file_code bytes) 0 (λ z. error_coded e (code_of is ∙ file_coded bytes ∙ z)))
 
-  pub read_early : {e : FileError} → refusal_of e ≡ without_place (early_code bytes) → outcome (Err e) ≡ read bytes
-  read_early {e} is = refused_line (refused_early bytes _ (error_coded e) is)
+  pub read_early : (e : FileError) → refusal_of e ≡ without_place (early_code bytes) → outcome (Err e) ≡ read bytes
+  read_early e is = refused_line e (refused_early bytes _ (error_coded e) is)
 
   -- A file that codes 1 to 5 let through, with its table.
   module _ {t : Table} (early : without_place 0 ≡ without_place (early_code bytes)) (d : t ≡ decode bytes) where
@@ -37,9 +37,9 @@ module _ (bytes : List ℕ) where
     counted = let w = whole bytes zero_code in rw d (w.boxes, w.trains)
 
     module _ {track : Track} {way : ℕ → ℕ} (made : track ≡ track_of t) (passed : way ≡ way_of t) where
-      pub read_late : {e : FileError} → refusal_of e ≡ parts_refusal t.version t.n t.m t.k track way t.boxes t.trains t.routes
+      pub read_late : (e : FileError) → refusal_of e ≡ parts_refusal t.version t.n t.m t.k track way t.boxes t.trains t.routes
           → outcome (Err e) ≡ read bytes
-      read_late is = refused_line (refused_late bytes _ t zero_code d (parts_answer t _ made passed is))
+      read_late e is = refused_line e (refused_late bytes _ t zero_code d (parts_answer t _ made passed is))
 
       pub read-accepted : {b : List SwitchBox} {r : List Train}
           → without_place 0 ≡ parts_refusal t.version t.n t.m t.k track way t.boxes t.trains t.routes

@@ -1,5 +1,5 @@
 -- The start of a line, train after train and box after box.
-use Rattle.std.proofs.Common.{ℕ, ◌+◌, ◌-◌, ◌≤◌, ◌<◌, ◌≡◌, refl, sym, ◌∙◌, ap, Bool, true, false, cond, List, ◌++◌, add-one, arith, eq-eqb, ne_eqb, eqb, length, get_or, set, take, replicate, length-set}
+use Rattle.std.proofs.Common.{ℕ, ◌+◌, ◌-◌, ◌≤◌, ◌<◌, ◌≡◌, refl, sym, ◌∙◌, ap, true, false, cond, List, ◌++◌, add-one, arith, eq-eqb, ne_eqb, eqb, length, get_or, set, take, replicate, length-set}
 use Rattle.std.proofs.lemmas.Bool.{false≢true}
 use native.Mathlib.Decide.{ℕ_discrete}
 use lib.Seq.{ext_get_or, get_or-set_same, get_or-set_other, take-set-lt, set-append_left}

@@ -37,9 +37,9 @@ module _ (file : List ℕ) where
     read-sound = rw accepted-line (start_sound file accepted_file)
 
 module _ (file steps buffer : List ℕ) where
-  pub run_refused : {e : FileError} → outcome (Err e) ≡ read file → Ran file steps buffer (outcome (Err e)) buffer
+  pub run_refused : (e : FileError) → outcome (Err e) ≡ read file → Ran file steps buffer (outcome (Err e)) buffer
   unfolding run run_refusal answered read
-  run_refused {e} is =
+  run_refused e is =
       let other : (file_refusal file).code ≢ 0 = λ z. error_coded e (code_of (told file is) ∙ z) in
       let same = then_refused (file_refusal file) (26 if ltb (length buffer) (step_count steps) ∷ []) other in
       let refused = rw (file_coded file) at (ne_eqb (file_refusal file).code 0 other) in

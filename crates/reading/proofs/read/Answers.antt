@@ -5,14 +5,14 @@ use Rattle.reading.proofs.read.Goals as goal
 pub returns-in_err-table : goal.returns-in_err-table
 returns-in_err-table c =
     let p = err_from_is_err_and c.from_residual.result c.from_residual.ensures.1 in
-    rw (p.1, p.2) (read_early _ c.in_err-table.ensures.refusal)
+    rw (p.1, p.2) (read_early _ _ c.in_err-table.ensures.refusal)
 
 pub returns-in_err-check_parts : goal.returns-in_err-check_parts
 returns-in_err-check_parts c =
     let p = err_from_is_err_and c.from_residual-in_err-check_parts.result c.from_residual-in_err-check_parts.ensures.1 in
     let told = c.in_ok-table.ensures in
     let made = c.of-columns.ensures in
-    rw (p.1, p.2) (read_late _ told.refusal told.table made.track made.way c.in_err-check_parts.ensures)
+    rw (p.1, p.2) (read_late _ told.refusal told.table made.track made.way _ c.in_err-check_parts.ensures)
 
 pub boxes-boxes-requires : goal.boxes-boxes-requires
 boxes-boxes-requires c =

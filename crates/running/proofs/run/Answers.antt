@@ -7,7 +7,7 @@ use Rattle.running.proofs.run.Goals as goal
 pub returns-in_err-line : goal.returns-in_err-line
 returns-in_err-line c =
     let p = err_from_is_err_and c.from_residual.result c.from_residual.ensures.1 in
-    rw (p.1, p.2) (run_refused _ _ _ c.in_err-line.ensures)
+    rw (p.1, p.2) (run_refused _ _ _ _ c.in_err-line.ensures)
 
 pub returns-then-answers-count : goal.returns-then-answers-count
 unfolding step_count

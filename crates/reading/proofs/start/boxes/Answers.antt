@@ -1,4 +1,4 @@
-use Rattle.std.proofs.Common.{◌≡◌, sym, ◌∙◌}
+use Rattle.std.proofs.Common.{sym, ◌∙◌}
 use Rattle.reading.proofs.Begin.{none_yet, turn_here, turn_nowhere}
 use Rattle.reading.proofs.start.boxes.Goals as goal
 use Rattle.reading.proofs.start.boxes.Goals.{then-not-outside, else-not-outside}

@@ -1,10 +1,10 @@
 -- The ends of a run: a refused file, a buffer that is too short, and all steps taken.
-use Rattle.std.proofs.Common.{ℕ, ◌≤◌, ◌<◌, ◌≡◌, ◌≢◌, refl, sym, ◌∙◌, ap, List, [], ◌∷◌, ◌++◌, Ok, Err, arith, lt-ltb, le-ltb, ne_eqb, ltb, length, drop}
+use Rattle.std.proofs.Common.{ℕ, ◌+◌, ◌/◌, ◌≤◌, ◌<◌, ◌≡◌, ◌≢◌, refl, sym, ◌∙◌, ap, List, [], ◌∷◌, ◌++◌, Ok, Err, arith, lt-ltb, le-ltb, ne_eqb, ltb, length, drop}
 use Rattle.rules.specs.declared.Line.{Line}
 use Rattle.rules.specs.declared.errors.FileError.{FileError}
 use Rattle.rules.specs.declared.errors.FileError.TheVariants.{NoRoom}
 use Rattle.rules.specs.Ends.{FileOutcome}
-use Rattle.rules.specs.Errors.{refusal_of, outcome}
+use Rattle.rules.specs.Errors.{outcome}
 use Rattle.rules.specs.Rows.{◌if◌}
 use Rattle.rules.specs.Placing.{without_place}
 use Rattle.rules.specs.File.{file_code, file_refusal, decode}
@@ -54,29 +54,30 @@ module _ (file steps buffer : List ℕ) where
     file_zero : (file_refusal file).code ≡ 0
     file_zero = sym (code_of (told file is))
 
-    pub run_short : length buffer < step_count steps → Ran file steps buffer (outcome (Err NoRoom)) buffer
-    unfolding run run_refusal answered
-    run_short h =
-        let short : run_refusal file steps buffer ≡ without_place 26 = then_hit (file_refusal file) file_zero 26 _ (lt-ltb _ _ h) in
-        record { outcome = rw short; buffer = rw short refl; safe = λ e. absurd (omega arith) }
+    module _ {n : ℕ} (counted : n ≡ (length steps + 2) / 3) where
+      pub run_short : length buffer < n → Ran file steps buffer (outcome (Err NoRoom)) buffer
+      unfolding run run_refusal answered step_count
+      run_short h =
+          let short : run_refusal file steps buffer ≡ without_place 26 = then_hit (file_refusal file) file_zero 26 _ (lt-ltb _ _ (omega arith)) in
+          record { outcome = rw short; buffer = rw short refl; safe = λ e. absurd (omega arith) }
 
-    module _ (room : step_count steps ≤ length buffer) where
-      roomy : run_refusal file steps buffer ≡ without_place 0
-      unfolding run_refusal
-      roomy = then_none (file_refusal file) file_zero 26 _ (le-ltb _ _ room)
+      module _ (room : n ≤ length buffer) where
+        roomy : run_refusal file steps buffer ≡ without_place 0
+        unfolding run_refusal step_count
+        roomy = then_none (file_refusal file) file_zero 26 _ (le-ltb _ _ (omega arith))
 
-      pub run_done : {l : Line} {after : List ℕ} → l ≡ line_after step start (whole_steps steps)
-          → after ≡ answers_from step start steps ++ drop (step_count steps) buffer → Ran file steps buffer (outcome (Ok l)) after
-      unfolding run answered
-      run_done {l} {after} l-is after_is =
-          let begin = accepted-line file is in
-          let left : outcome (Ok l) ≡ run checked_step file steps buffer = rw (checked-run file steps buffer, roomy, l-is, begin) refl in
-          let told : after ≡ answered checked_step file steps buffer = rw (checked_answers file steps buffer, roomy, after_is, begin) refl in
-          let line : l ≡ (run checked_step file steps buffer).line = ap (λ (x : FileOutcome). x.line) left in
-          record { outcome = left; buffer = told; safe = λ e. rw (line, told) (safe-run file steps buffer (code_of roomy)) }
+        pub run_done : {l : Line} {after : List ℕ} → l ≡ line_after step start (whole_steps steps)
+            → after ≡ answers_from step start steps ++ drop (step_count steps) buffer → Ran file steps buffer (outcome (Ok l)) after
+        unfolding run answered
+        run_done {l} {after} l-is after_is =
+            let begin = accepted-line file is in
+            let left : outcome (Ok l) ≡ run checked_step file steps buffer = rw (checked-run file steps buffer, roomy, l-is, begin) refl in
+            let told : after ≡ answered checked_step file steps buffer = rw (checked_answers file steps buffer, roomy, after_is, begin) refl in
+            let line : l ≡ (run checked_step file steps buffer).line = ap (λ (x : FileOutcome). x.line) left in
+            record { outcome = left; buffer = told; safe = λ e. rw (line, told) (safe-run file steps buffer (code_of roomy)) }
 
-      -- All steps taken by single calls: the code and the buffer of a run.
-      pub run_called : {after : List ℕ} → after ≡ answers_from checked_step start steps ++ drop (step_count steps) buffer
-          → (0 ≡ (run checked_step file steps buffer).refusal.code) × (after ≡ answered checked_step file steps buffer)
-      unfolding run answered
-      run_called after_is = rw (roomy, after_is, accepted-line file is) (refl, refl)
+        -- All steps taken by single calls: the code and the buffer of a run.
+        pub run_called : {after : List ℕ} → after ≡ answers_from checked_step start steps ++ drop (step_count steps) buffer
+            → (0 ≡ (run checked_step file steps buffer).refusal.code) × (after ≡ answered checked_step file steps buffer)
+        unfolding run answered
+        run_called after_is = rw (roomy, after_is, accepted-line file is) (refl, refl)

@@ -1,5 +1,5 @@
 -- A step as a program takes it, in the loop and by itself: what it looks up and has decided is the step of `rules`.
-use Rattle.std.proofs.Common.{ℕ, suc, ◌+◌, ◌-◌, ◌≤◌, ◌<◌, ◌≡◌, ◌≢◌, refl, sym, ◌∙◌, ap, Bool, true, false, List, Result, Ok, Err, arith, ne_eqb, length, get_or, set, length-set}
+use Rattle.std.proofs.Common.{ℕ, suc, ◌-◌, ◌≤◌, ◌<◌, ◌≡◌, ◌≢◌, refl, sym, ◌∙◌, ap, true, false, List, arith, ne_eqb, get_or, set, length-set}
 use Rattle.rules.specs.declared.Table.{Table}
 use Rattle.rules.specs.declared.SwitchBox.{SwitchBox}
 use Rattle.rules.specs.declared.Train.{Train}
@@ -11,39 +11,22 @@ use Rattle.rules.specs.Ends.{Effect}
 use Rattle.rules.specs.Ends.Effect.{Refused, Changed}
 use Rattle.rules.specs.Errors.{step_code}
 use Rattle.rules.specs.Rows.{first, outside, nth, set_nth}
-use Rattle.rules.specs.Track.{no_box_plan, plan_at, track_of, track_in, way_of, way_in, point_at, point_in}
-use Rattle.rules.specs.Line.{no_box, no_train, around_on, around_train, around, box_at, train_at, put_train, put_box, message_box}
+use Rattle.rules.specs.Track.{no_box_plan, plan_at}
+use Rattle.rules.specs.Line.{no_box, no_train, around_train, around, box_at, train_at, put_train, put_box, message_box}
 use Rattle.rules.specs.Steps.{Step, apply, enter, clear, box_answers, alone, formed, form_rows, concerned_box, effect, step}
 use Rattle.rules.specs.Record.{record_fault}
-use Rattle.rules.specs.Safety.{TrainOf, StaysSound}
+use Rattle.rules.specs.Safety.{TrainOf}
 use Rattle.rules.proofs.Tests.{outside-false_iff}
 use Rattle.rules.proofs.Accepted.{BoxOf}
 use Rattle.rules.proofs.Coded.{step_coded}
 use Rattle.rules.proofs.Steps.{form_row_iff, box_here, effect_here, step_unformed, step_unknown, step_taken}
 use Rattle.rules.proofs.Checked.{sound_here, sound-next}
 use Rattle.rules.proofs.Settled.{Alike, around_alike}
-use Rattle.rules.proofs.Staying.{Stays, stays_alike, answer_stays, alone_stays}
 use Rattle.rules.proofs.Concerned.{ahead-there, passed_there, asked-there, concerned_there, unasked, box_room, train_room}
-use Rattle.columns.specs.declared.Columns.{Columns as TableColumns}
-use Rattle.columns.proofs.Tracks.{track-made, ways_made, points_made}
+use Rattle.columns.specs.declared.Columns.{Columns}
 use Rattle.traincomputer.specs.Sight.{around_in}
-use Rattle.running.specs.Loop.{Columns, standing, Seen, Kept, no_around}
+use Rattle.running.specs.Loop.{standing, Seen, Kept, no_around}
 use Rattle.running.proofs.Views.{seen-moved, seen_stays}
-
--- What the columns of a table show: its track, the ways of its segments, its points, and what stands around its trains.
-module _ {t : Table} {a b ways kinds : List ℕ} (h : Columns t a b ways kinds) (segments : length t.segments ≡ 96) where
-  pub track_shown : track_in a b ≡ track_of t
-  track_shown = track-made t.segments segments h.ends_a h.ends_b
-
-  pub ways_shown : way_in ways ≡ way_of t
-  ways_shown = ways_made t.segments segments h.ways_of
-
-  module _ (plans : length t.boxes ≡ 96) where
-    pub points_shown : point_in kinds ≡ point_at t
-    points_shown = points_made t plans h.kinds_of
-
-    pub around_shown : (routes : List ℕ) → around_in a b ways kinds routes ≡ around_train t routes
-    around_shown routes = rw (track_shown, ways_shown, points_shown) refl
 
 -- A step that 13 and 14 do not stop, of the train at index i.
 pub record Taken (t : Table) (s : Step) (i : ℕ) : Type 0 where
@@ -108,21 +91,21 @@ pub unformed : (l : Line) (s : Step) (e : StepError) → step_code e ≡ first (
 unformed l s e is = step_unformed l s (step_code e) is (step_coded e)
 
 -- 14, of a line l with what is kept of it; it is the line m.
-pub unknown : {k : TableColumns} {l m : Line} {seen : List Around} (h : Kept k l seen) → l ≡ m → (s : Step)
+pub unknown : {k : Columns} {l m : Line} {seen : List Around} (h : Kept k l seen) → l ≡ m → (s : Step)
     → 0 ≡ first (form_rows s.kind s.box) → true ≡ outside l.table.k s.train → record { code = 14; line = m } ≡ step m s
 unknown {l = l} h view s passes out = rw (← view) (step_unknown l s ((form_row_iff _ _).0 (sym passes)) (sym out))
 
 -- A step of the train at index i that these do not stop, on a line l with what is kept of it; it is the line m.
-pub record Going (k : TableColumns) (l m : Line) (seen : List Around) (s : Step) (i : ℕ) : Type 0 where
+pub record Going (k : Columns) (l m : Line) (seen : List Around) (s : Step) (i : ℕ) : Type 0 where
   pub from : Kept k l seen
   pub view : l ≡ m
   pub taken : Taken l.table s i
 
-pub goes : {k : TableColumns} {l m : Line} {seen : List Around} {s : Step} {i : ℕ} → Kept k l seen → l ≡ m
+pub goes : {k : Columns} {l m : Line} {seen : List Around} {s : Step} {i : ℕ} → Kept k l seen → l ≡ m
     → 0 ≡ first (form_rows s.kind s.box) → false ≡ outside l.table.k s.train → i ≡ s.train - 1 → Going k l m seen s i
 goes h view passes there i-is = record { from = h; view = view; taken = takes passes there i-is }
 
-module _ {k : TableColumns} {l m : Line} {seen : List Around} {s : Step} {i : ℕ} (g : Going k l m seen s i) where
+module _ {k : Columns} {l m : Line} {seen : List Around} {s : Step} {i : ℕ} (g : Going k l m seen s i) where
   abbrev h : Kept k l seen
   h = g.from
 
@@ -157,11 +140,11 @@ module _ {k : TableColumns} {l m : Line} {seen : List Around} {s : Step} {i : �
   pub train_there : (1 ≤ s.train) × (s.train ≤ 16)
   train_there = train-within l s i checked w
 
-  pub ahead_there : (1 ≤ view_here.ahead) × (view_here.ahead ≤ 96)
-  ahead_there = rw viewed (within l s i checked w view_here viewed (ahead-there l checked _ there))
+  pub ahead_is_there : (1 ≤ view_here.ahead) × (view_here.ahead ≤ 96)
+  ahead_is_there = rw viewed (within l s i checked w view_here viewed (ahead-there l checked _ there))
 
-  pub passed_there' : (1 ≤ view_here.passed) × (view_here.passed ≤ 96)
-  passed_there' = rw viewed (within l s i checked w view_here viewed (passed_there l checked _ there))
+  pub passed_is_there : (1 ≤ view_here.passed) × (view_here.passed ≤ 96)
+  passed_is_there = rw viewed (within l s i checked w view_here viewed (passed_there l checked _ there))
 
   pub asked_there : (e : ℕ) → e ≡ message_box train_here.message → e ≢ 0 → (1 ≤ e) × (e ≤ 96)
   asked_there e e-is some =
@@ -189,14 +172,14 @@ module _ {k : TableColumns} {l m : Line} {seen : List Around} {s : Step} {i : �
       → d ≡ enter view_here train_here (get_or l.boxes j no_box) → Turned l s i (suc j) d
   unfolding concerned_box effect box_at nth
   enters {j} {d} kind j-is d-is =
-      let box : view_here.ahead ≡ suc j = one_more j-is ahead_there.0 in
+      let box : view_here.ahead ≡ suc j = one_more j-is ahead_is_there.0 in
       decides (suc j) d (rw (kind, box)) (rw kind d-is)
 
   pub clears : {j : ℕ} {d : Effect} → s.kind ≡ 6 → j ≡ view_here.passed - 1
       → d ≡ clear view_here train_here (get_or l.table.boxes j no_box_plan) (get_or l.boxes j no_box) → Turned l s i (suc j) d
   unfolding concerned_box effect plan_at box_at nth
   clears {j} {d} kind j-is d-is =
-      let box : view_here.passed ≡ suc j = one_more j-is passed_there'.0 in
+      let box : view_here.passed ≡ suc j = one_more j-is passed_is_there.0 in
       decides (suc j) d (rw (kind, box)) (rw kind d-is)
 
   pub goes_alone : {x : SwitchBox} {d : Effect} → s.kind ≢ 3 → s.kind ≢ 5 → s.kind ≢ 6 → x ≡ no_box

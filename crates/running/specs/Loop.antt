@@ -8,18 +8,9 @@ use Rattle.rules.specs.declared.Around.{Around}
 use Rattle.rules.specs.declared.errors.StepError.{StepError}
 use Rattle.rules.specs.Errors.{step_code}
 use Rattle.rules.specs.Safety.{StaysSound}
-use Rattle.rules.specs.Track.{track_of, way_of, far_box}
 use Rattle.rules.specs.Line.{no_train, around_train}
-use Rattle.columns.specs.declared.Columns.{Columns as TableColumns}
-use Rattle.columns.specs.Column.{column, kind_of}
+use Rattle.columns.specs.declared.Columns.{Columns}
 use Rattle.traincomputer.specs.Sight.{around_in}
-
--- The columns of a table t: the boxes at the A ends and at the B ends of segments, their ways, and the kinds of boxes, each by number.
-pub record Columns (t : Table) (a b ways kinds : List ℕ) : Type 0 where
-  pub ends_a : a ≡ column (far_box (track_of t) 1)
-  pub ends_b : b ≡ column (far_box (track_of t) 0)
-  pub ways_of : ways ≡ column (way_of t)
-  pub kinds_of : kinds ≡ column (kind_of t.boxes)
 
 -- The line with this table and these boxes, trains and routes.
 abbrev pub standing : Table → List SwitchBox → List Train → List ℕ → Line
@@ -49,7 +40,7 @@ pub record Seen (around : ℕ → Train → Around) (trains : List Train) (seen 
 
 -- What holds of a line between two steps: the columns show what stands around its trains, the record check finds nothing on it, now and
 -- after any steps, and what stands around each train is kept.
-pub record Kept (c : TableColumns) (l : Line) (seen : List Around) : Type 0 where
+pub record Kept (c : Columns) (l : Line) (seen : List Around) : Type 0 where
   pub shown : around_in c.a c.b c.ways c.kinds l.routes ≡ around_train l.table l.routes
   pub sound : StaysSound l
   pub places : length l.trains ≡ 16

@@ -1,5 +1,4 @@
 -- By the three ends of a run.
-use Rattle.std.proofs.Common.{arith}
 use Rattle.std.proofs.lemmas.Result.{err_from_is_err_and}
 use Rattle.running.proofs.Runs.{run_refused, run_short, run_done, read-sound}
 use Rattle.running.proofs.run.Goals as goal
@@ -10,5 +9,11 @@ returns-in_err-line c =
     rw (p.1, p.2) (run_refused _ _ _ _ c.in_err-line.ensures)
 
 pub returns-then-answers-count : goal.returns-then-answers-count
-unfolding step_count
-returns-then-answers-count c = run_short _ _ _ c.in_ok-line.ensures (omega (arith, c.if-answers-count.true, c.count.ensures))
+returns-then-answers-count c = run_short _ _ _ c.in_ok-line.ensures c.count.ensures c.if-answers-count.true
+
+pub advance-requires-clause-stays_sound : goal.advance-requires-clause-stays_sound
+advance-requires-clause-stays_sound c = read-sound _ c.in_ok-line.ensures
+
+pub returns : goal.returns
+returns c =
+    run_done _ _ _ c.in_ok-line.ensures c.count.ensures c.if-answers-count.false c.advance.ensures.line c.advance.ensures.answers_after

@@ -1,7 +1,7 @@
 use Rattle.std.proofs.Common.{arith, sym, refl, rules, ◌-◌}
 use Rattle.std.proofs.lemmas.Result.{err_from_is_err_and}
 use Rattle.rules.proofs.Staying.{alone_stays, answer_stays, stays_alike}
-use Rattle.running.proofs.Turn.{goes, unformed, unknown, train_there, ahead_there, passed_there', asked_there, answers, unanswered, enters, clears, goes_alone, refuses, went, answered, moved}
+use Rattle.running.proofs.Turn.{goes, unformed, unknown, train_there, ahead_is_there, passed_is_there, asked_there, answers, unanswered, enters, clears, goes_alone, refuses, went, answered, moved}
 use Rattle.running.proofs.steps.Moving.take.Goals as goal
 
 pub returns-in_err-check_form : goal.returns-in_err-check_form
@@ -49,7 +49,7 @@ returns-in_ok-done-in-3 c =
 pub index-j-requires-in-5 : goal.index-j-requires-in-5
 index-j-requires-in-5 c =
     let g = goes c.self.invariant c.self.view_is c.in_ok-check_form.ensures c.if-outside.ensures c.index-i.ensures.value in
-    let within = ahead_there g in
+    let within = ahead_is_there g in
     record { low = within.0; high = within.1 }
 
 pub returns-in_err-done-in-5 : goal.returns-in_err-done-in-5
@@ -73,7 +73,7 @@ returns-in_ok-done-in-5 c =
 pub index-j-requires-in-6 : goal.index-j-requires-in-6
 index-j-requires-in-6 c =
     let g = goes c.self.invariant c.self.view_is c.in_ok-check_form.ensures c.if-outside.ensures c.index-i.ensures.value in
-    let within = passed_there' g in
+    let within = passed_is_there g in
     record { low = within.0; high = within.1 }
 
 pub returns-in_err-done-in-6 : goal.returns-in_err-done-in-6

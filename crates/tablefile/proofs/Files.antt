@@ -7,8 +7,9 @@ use Rattle.rules.specs.Ends.{Refusal}
 use Rattle.rules.specs.Rows.{outside}
 use Rattle.rules.specs.Placing.{without_place, table_refusal}
 use Rattle.rules.specs.File.{train_count, file_refusal, decode, route_start, route_in, route_refusal, route_part, route_from}
+use Rattle.rules.proofs.Coded as Errors
 use Rattle.rules.proofs.Tests.{outside-false_iff}
-use Rattle.rules.proofs.Refusals.{code_of, file_coded, refused_nowhere, then_hit, then_none}
+use Rattle.rules.proofs.Refusals.{code_of, file_coded, refused_nowhere, then_refused, then_hit, then_none}
 use Rattle.tablefile.specs.Whole.{early_code, Whole}
 use Rattle.tablefile.specs.Places.{HasTrain}
 use Rattle.tablefile.proofs.Codes.{file_early, early_placeless, file_refused_late, whole}
@@ -62,3 +63,8 @@ module _ (bytes : List ℕ) where
         pub route_is : route_in bytes i ≡ route_part bytes i
         unfolding route_part
         route_is = rw (eq-eqb _ _ (code_of (sym some_train)))
+
+-- What decides of a file, and of the route of one of its trains.
+pub ruleset files = (refused_early, refused_late, Errors.file_coded, code_of)
+
+pub ruleset routes = (no_train, some_train, route_start_is, route_is, then_refused, Errors.file_coded, code_of)

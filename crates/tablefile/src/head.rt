@@ -20,14 +20,14 @@ pub(crate) struct Head {
 impl Head {
     // The head of a file that is long enough to have one; its version has the high byte first.
     #[tactic(auto, unfolding(rules::specs::File::version_in, rules::specs::File::segment_count, rules::specs::File::box_count, rules::specs::File::train_count, rules::specs::File::byte_at))]
-    pub(crate) fn of(bytes: &[u8]) -> Head
+    pub(crate) fn of(bytes: &[u8]) -> Self
         requires { 8 ≤ length bytes.now }
         ensures version { result.version ≡ version_in bytes.now }
         ensures segments { result.n ≡ segment_count bytes.now }
         ensures boxes { result.m ≡ box_count bytes.now }
         ensures trains { result.k ≡ train_count bytes.now }
     {
-        Head {
+        Self {
             version: u16::from_be_bytes([bytes[3], bytes[4]]),
             n: bytes[5],
             m: bytes[6],

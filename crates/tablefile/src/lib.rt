@@ -13,7 +13,7 @@ ghost use Rattle.tablefile.specs.Part.{pointer_after};
 use rules::{FileError, Table};
 
 // What codes 1 to 12, 28 and 32 decide of a file.
-#[tactic(auto, using(rules::proofs::Coded::file_coded, rules::proofs::Refusals::code_of, crate::proofs::Files::refused_early, crate::proofs::Files::refused_late))]
+#[tactic(auto, using(crate::proofs::Files::files))]
 pub fn read_table(bytes: &[u8]) -> Result<Table, FileError>
     ensures refusal { refused result ≡ file_refusal bytes.now }
     ensures table { IfOk result (λ t. t ≡ decode bytes.now) }
@@ -25,7 +25,7 @@ pub fn read_table(bytes: &[u8]) -> Result<Table, FileError>
 
 // The route of the train with this number as a part of the lent file, in the file's own memory, or why it is refused: as the file is,
 // then with 14.
-#[tactic(auto, using(rules::proofs::Coded::file_coded, rules::proofs::Refusals::code_of, rules::proofs::Refusals::then_refused, crate::proofs::Files::no_train, crate::proofs::Files::some_train, crate::proofs::Files::has_train, crate::proofs::Files::route_start_is, crate::proofs::Files::route_is), unfolding(rules::specs::File::route_refusal))]
+#[tactic(auto, using(crate::proofs::Files::routes), unfolding(rules::specs::File::route_refusal))]
 pub fn route(bytes: &[u8], number: u8) -> Result<&[u8], FileError>
     ensures refusal { refused result ≡ route_refusal bytes.now number }
     ensures ref_ptr_value { IfOk result (λ part. part.ref_ptr ≡ pointer_after bytes.entry.ref_ptr (route_from bytes.now number)) }

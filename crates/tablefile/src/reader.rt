@@ -21,29 +21,29 @@ struct TableReader<'a> {
 
 impl<'a> TableReader<'a> {
     // The reader of a file, at its first record, behind the head.
-    fn new(bytes: &'a [u8]) -> TableReader<'a>
+    fn new(bytes: &'a [u8]) -> Self
         ensures { (result.bytes ≡ bytes.entry) × (result.at ≡ 8) }
     {
-        TableReader { bytes, at: 8 }
+        Self { bytes, at: 8 }
     }
 
     // The reader past records of this size, so many of them.
-    fn past(self, size: u8, count: u8) -> TableReader<'a>
+    fn past(self, size: u8, count: u8) -> Self
         requires { self.at < 2 ^ 32 }
         ensures { (result.bytes ≡ self.entry.bytes) × (result.at ≡ self.entry.at + size * count) }
     {
-        TableReader {
+        Self {
             at: records::after(self.at, size, count),
             ..self
         }
     }
 
     // The reader past the first `count` train records, each as long as its route asks for.
-    fn past_trains(self, count: u8) -> TableReader<'a>
+    fn past_trains(self, count: u8) -> Self
         requires { TrainsAt self.bytes.now self.at }
         ensures { (result.bytes ≡ self.entry.bytes) × (result.at ≡ trains_from self.entry.bytes.now count) }
     {
-        TableReader {
+        Self {
             at: records::after_trains(self.bytes, self.at, count),
             ..self
         }
@@ -98,7 +98,7 @@ impl<'a> TableReader<'a> {
 }
 
 // The reader behind the first `count` train records of a file.
-fn behind_trains<'a>(bytes: &'a [u8], count: u8) -> TableReader<'a>
+fn behind_trains(bytes: &[u8], count: u8) -> TableReader<'_>
     requires { 8 ≤ length bytes.now }
     ensures { (result.bytes ≡ bytes.entry) × (result.at ≡ trains_from bytes.now count) }
 {
@@ -115,18 +115,18 @@ pub(crate) fn table(bytes: &[u8]) -> Table
     ensures { result ≡ decode bytes.now }
 {
     let head = Head::of(bytes);
-    let segments = TableReader::new(bytes);
-    let boxes = segments.past(head.segment_size(), head.n);
-    let trains = boxes.past(5, head.m);
+    let at_segments = TableReader::new(bytes);
+    let at_boxes = at_segments.past(head.segment_size(), head.n);
+    let at_trains = at_boxes.past(5, head.m);
     Table {
         version: head.version,
         n: head.n,
         m: head.m,
         k: head.k,
-        segments: segments.segments(),
-        boxes: boxes.boxes(),
-        trains: trains.trains(),
-        routes: trains.routes(),
+        segments: at_segments.segments(),
+        boxes: at_boxes.boxes(),
+        trains: at_trains.trains(),
+        routes: at_trains.routes(),
     }
 }
 

@@ -68,7 +68,10 @@ pub fn check_head(version: u16, n: u8, m: u8, k: u8) -> Result<(), FileError>
 
 // Whether a table record is accepted, by its parts and its columns: 3, 4, 6 to 10, 11 or 28, 12 and 32, in this order.
 pub fn check_parts(table: &Table, columns: &Columns) -> Result<(), FileError>
-    ensures { refused result ≡ parts_refusal table.now.version table.now.n table.now.m table.now.k (track_in columns.now.a columns.now.b) (way_in columns.now.ways) table.now.boxes table.now.trains table.now.routes }
+    ensures { let t = table.now in
+        let track = track_in columns.now.a columns.now.b in
+        let way = way_in columns.now.ways in
+        refused result ≡ parts_refusal t.version t.n t.m t.k track way t.boxes t.trains t.routes }
 {
     if some_way_unheld(table.version, table.n, &columns.ways) {
         return Err(FileError::UnknownVersion);

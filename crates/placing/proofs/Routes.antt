@@ -8,7 +8,7 @@ use Rattle.std.specs.List.{enumerate_from}
 use native.Mathlib.Nat.{zero-add}
 use lib.ListN.{get_or-eq_default}
 use Rattle.rules.proofs.Tests.{tests}
-use Rattle.rules.proofs.Rows.{any_none, any_skip, any_found, NoneYet, none_start, none_turn, none_found, none_done, nth_at, nth_past, replicate_at, route_index, route_before}
+use Rattle.rules.proofs.Rows.{any_none, any_more, any_skip, any_found, none_found, nth_at, nth_past, replicate_at, route_index, route_before}
 use Rattle.rules.proofs.RouteFault.{NoneFound, found_start, found_turn, found_here, found_done, first_same, found-tells}
 use Rattle.rules.proofs.Refusals.{code_of, refused_nowhere, refused_there}
 use Rattle.rules.specs.declared.TrainPlan.{TrainPlan}
@@ -18,7 +18,8 @@ use Rattle.rules.specs.Track.{no_train_plan, route_at, Track, runs_against, near
 use Rattle.rules.specs.Placing.{without_place, route_shape_fault, place_rows, route_place_fault, route_fault, start_fault, start_against_at, shape_fault_at, route_fault_at, routes_fault, placing_rows, tells_place, refusal_by}
 
 -- What code 10 says of the train with index i.
-pub shape_at : (trains : List TrainPlan) (i : ℕ) → shape_fault_at trains (i + 1) ≡ route_shape_fault (get_or trains i no_train_plan).direction (get_or trains i no_train_plan).length
+pub shape_at : (trains : List TrainPlan) (i : ℕ)
+    → shape_fault_at trains (i + 1) ≡ route_shape_fault (get_or trains i no_train_plan).direction (get_or trains i no_train_plan).length
 unfolding shape_fault_at
 shape_at trains i = rw nth_at
 
@@ -56,7 +57,8 @@ pub route_read : (routes : List ℕ) (i a n p : ℕ) → 1 ≤ i → a ≡ 64 * 
     → get_or (take (a + n - a) (drop a routes)) p 0 ≡ route_at routes i (p + 1)
 route_read routes i a n p low from high l =
     let size : a + n - a ≡ n = omega arith in
-    rw (size, get_or-take n (drop a routes) p 0 l, get_or-drop a routes p 0) (sym (route_index routes i (p + 1) _ low (omega arith) (omega arith) (omega arith)))
+    rw (size, get_or-take n (drop a routes) p 0 l, get_or-drop a routes p 0)
+    (sym (route_index routes i (p + 1) _ low (omega arith) (omega arith) (omega arith)))
 
 -- The search along a route has found nothing at its first p places, and has the segment at the last of them in hand.
 pub record Searched (n : ℕ) (track : Track) (routes : List ℕ) (i d r before p : ℕ) : Type 0 where
@@ -92,7 +94,10 @@ module _ (n : ℕ) (track : Track) (routes : List ℕ) (i d r : ℕ) where
     unfolding place_rows first
     searched_turn a b =
         let sound : 0 ≡ first (place_rows n track d (p + 1) before s) =
-        elim (dec_lt 0 p) [ yes k ↦ let c = b k in search tests depth 12 | no k ↦ let c : p + 1 ≤ 1 = omega arith in search tests depth 12 ] in
+        elim (dec_lt 0 p) [
+          | yes k ↦ let c = b k in search tests depth 12
+          | no k ↦ let c : p + 1 ≤ 1 = omega arith in search tests depth 12
+        ] in
         record { yet = found_turn r _ p h.yet l (sym (code_of (place_is 0 sound))); last = here }
 
   -- There is no segment at the next place.
@@ -138,58 +143,72 @@ pub routes_done : (n : ℕ) (track : Track) (trains : List TrainPlan) (routes : 
 unfolding routes_fault
 routes_done n track trains routes k i yet l = found_done k _ i yet l
 
--- Code 12: a search through k trains that has found nothing among the first i, and has marked the segments with which they begin.
-pub record Begun (routes : List ℕ) (k i : ℕ) (begun : List Bool) : Type 0 where
-  pub yet : NoneYet k (start_fault routes) i
+-- Code 12: a search through trains that has found nothing before this number, and has marked the segments with which they begin.
+pub record Begun (routes : List ℕ) (number : ℕ) (begun : List Bool) : Type 0 where
+  pub none : any_of (number - 1) (start_fault routes) ≡ false
   pub size : length begun ≡ 256
-  pub marked : (s : ℕ) → get_or begun s false ≡ any_of i (λ j. eqb s (route_at routes j 1))
+  pub marked : (s : ℕ) → get_or begun s false ≡ any_of (number - 1) (λ j. eqb s (route_at routes j 1))
 
-pub begun_start : (routes : List ℕ) (k : ℕ) → Begun routes k 0 (replicate 256 false)
-begun_start routes k =
+pub begun_start : (routes : List ℕ) → Begun routes 1 (replicate 256 false)
+begun_start routes =
     record {
-      yet = none_start k _;
+      none = any_none _;
       size = length-replicate 256 false;
       marked = λ s. replicate_at 256 s false ∙ sym (any_none _);
     }
 
--- The train with index i begins with segment x.
-module _ (routes : List ℕ) (k i x : ℕ) (begun : List Bool) (h : Begun routes k i begun) (l : i < k)
-    (first : x ≡ route_at routes (i + 1) 1) where
+-- The train with this number begins with segment x.
+module _ (routes : List ℕ) (number x : ℕ) (begun : List Bool) (h : Begun routes number begun) (low : 1 ≤ number)
+    (first : x ≡ route_at routes number 1) where
+  here : number - 1 + 1 ≡ number
+  here = omega arith
+
+  next : number + 1 - 1 ≡ number - 1 + 1
+  next = omega arith
+
   -- It is marked exactly where code 12 has the train.
-  begun_here : get_or begun x false ≡ start_fault routes (i + 1)
+  begun_here : get_or begun x false ≡ start_fault routes number
   unfolding start_fault
-  begun_here =
-      let back : i + 1 - 1 ≡ i = omega arith in
-      rw (back, ← first) (h.marked x)
+  begun_here = rw (← first) (h.marked x)
 
-  pub begun_found : get_or begun x false ≡ true → true ≡ any_of k (start_fault routes)
-  begun_found e = none_found k _ i l (sym begun_here ∙ e)
+  pub begun_found : (k : ℕ) → number ≤ k → get_or begun x false ≡ true → true ≡ any_of k (start_fault routes)
+  begun_found k l e = none_found k _ (number - 1) (omega arith) (rw here (sym begun_here ∙ e))
 
-  pub begun_turn : x < 256 → get_or begun x false ≡ false → Begun routes k (i + 1) (set begun x true)
+  pub begun_turn : x < 256 → get_or begun x false ≡ false → Begun routes (number + 1) (set begun x true)
   begun_turn small e =
       record {
-        yet = none_turn k _ i h.yet l (sym begun_here ∙ e);
+        none = rw next (any_more _ (number - 1) h.none (rw here (sym begun_here ∙ e)));
         size = length-set begun x true ∙ h.size;
         marked =
             λ s.
             elim (ℕ_discrete s x) [
               | yes z ↦
-                  rw z
+                  rw (z, next)
                   (get_or-set_same begun x true false (rw h.size small)
-                  ∙ sym (any_found _ (i + 1) i (omega arith) (eq-eqb _ _ first)))
-              | no z ↦ get_or-set_other begun x s true false z ∙ h.marked s ∙ sym (any_skip _ i (ne_eqb _ _ (λ y. z (y ∙ sym first))))
+                  ∙ sym (any_found _ _ (number - 1) (omega arith) (rw here (eq-eqb _ _ first))))
+              | no z ↦
+                  rw next
+                  (get_or-set_other begun x s true false z
+                  ∙ h.marked s
+                  ∙ sym (any_skip _ (number - 1) (rw here (ne_eqb _ _ (λ y. z (y ∙ sym first))))))
             ];
       }
 
-pub begun_done : (routes : List ℕ) (k i : ℕ) (begun : List Bool) → Begun routes k i begun → k ≤ i → false ≡ any_of k (start_fault routes)
-begun_done routes k i begun h l = none_done k _ i h.yet l
+pub begun_done : (routes : List ℕ) (k number : ℕ) (begun : List Bool) → Begun routes number begun → k < number → (1 ≤ k → number ≤ k + 1)
+    → false ≡ any_of k (start_fault routes)
+begun_done routes zero number begun h past last = sym (any_none _)
+begun_done routes (suc k) number begun h past last =
+    let low : 1 ≤ suc k = omega arith in
+    let all : number - 1 ≡ suc k = omega (arith, last low) in
+    sym (rw all at h.none)
 
 -- What code 32 says of the train with this index and this plan, and of the train with index i among the first n.
 abbrev pub starts_against : (ℕ → ℕ) → List ℕ → ℕ × TrainPlan → Bool
 starts_against way routes (i, p) = runs_against p.direction (way (route_at routes (i + 1) 1))
 
 pub against_at : (way : ℕ → ℕ) (trains : List TrainPlan) (routes : List ℕ) (n i : ℕ) → n ≤ length trains → i < n
-    → starts_against way routes (get_or (enumerate_from 0 (take n trains)) i (0, no_train_plan)) ≡ start_against_at way trains routes (i + 1)
+    → starts_against way routes (get_or (enumerate_from 0 (take n trains)) i (0, no_train_plan))
+    ≡ start_against_at way trains routes (i + 1)
 unfolding start_against_at
 against_at way trains routes n i h l =
     let within : i < length (take n trains) = omega (arith, length-take-le n trains h) in

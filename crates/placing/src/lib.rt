@@ -4,7 +4,8 @@
 ghost use Rattle.std.specs.Prelude.{◌≡◌, ◌+◌, ◌≤◌, length};
 ghost use Rattle.rules.specs.Rows.{first, any_of};
 ghost use Rattle.rules.specs.Track.{route_at, track_in, way_in, follows};
-ghost use Rattle.rules.specs.Placing.{route_shape_fault, route_fault, start_fault, start_against_at, shape_fault_at, routes_fault, placing_rows, refusal_by};
+ghost use Rattle.rules.specs.Placing.{route_shape_fault, shape_fault_at, route_fault, routes_fault, start_fault, start_against_at};
+ghost use Rattle.rules.specs.Placing.{placing_rows, refusal_by};
 ghost use Rattle.rules.specs.Errors.{refused};
 
 use columns::Columns;
@@ -113,7 +114,8 @@ pub fn check_route(
 // Codes 11 and 28 in one search through the routes of all trains: the first place at fault.
 fn check_routes(table: &Table, columns: &Columns) -> Result<(), FileError>
     requires { table.now.k ≤ 16 }
-    ensures { refused result ≡ routes_fault table.now.n table.now.k (track_in columns.now.a columns.now.b) table.now.trains table.now.routes }
+    ensures { let t = table.now in
+        refused result ≡ routes_fault t.n t.k (track_in columns.now.a columns.now.b) t.trains t.routes }
 {
     // As a slice, whose length the proof knows.
     let trains: &[TrainPlan] = &table.trains;
@@ -135,8 +137,8 @@ fn some_start_shared(k: u8, routes: &[u8; 1024]) -> bool
     ensures { result ≡ any_of k (start_fault routes.now) }
 {
     let mut begun = [false; 256];
-    for i in 0..k {
-        let first = usize::from(segment_at(routes, i + 1, 1));
+    for number in 1..=k {
+        let first = usize::from(segment_at(routes, number, 1));
         if begun[first] {
             return true;
         }
@@ -148,7 +150,8 @@ fn some_start_shared(k: u8, routes: &[u8; 1024]) -> bool
 // Code 32: some train starts against the way of its first segment.
 fn some_start_against(table: &Table, columns: &Columns) -> bool
     requires { table.now.k ≤ 16 }
-    ensures { result ≡ any_of table.now.k (start_against_at (way_in columns.now.ways) table.now.trains table.now.routes) }
+    ensures { let t = table.now in
+        result ≡ any_of t.k (start_against_at (way_in columns.now.ways) t.trains t.routes) }
 {
     let trains: &[TrainPlan] = &table.trains;
     trains[..usize::from(table.k)].iter().enumerate().any(|(i, p)| {
@@ -159,7 +162,10 @@ fn some_start_against(table: &Table, columns: &Columns) -> bool
 
 // Codes 10 to 12, 28 and 32 of a table's trains: why a table with these trains is refused.
 pub fn check_placing(table: &Table, columns: &Columns) -> Result<(), FileError>
-    ensures { let track = track_in columns.now.a columns.now.b in refused result ≡ refusal_by (first (placing_rows table.now.n table.now.k track (way_in columns.now.ways) table.now.trains table.now.routes)) (routes_fault table.now.n table.now.k track table.now.trains table.now.routes) }
+    ensures { let t = table.now in
+        let track = track_in columns.now.a columns.now.b in
+        let rows = placing_rows t.n t.k track (way_in columns.now.ways) t.trains t.routes in
+        refused result ≡ refusal_by (first rows) (routes_fault t.n t.k track t.trains t.routes) }
 {
     if some_shape_faulty(table.k, &table.trains) {
         return Err(FileError::BadRouteShape);

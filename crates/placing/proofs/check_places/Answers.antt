@@ -12,12 +12,16 @@ returns-then-outside c = search (rules, searched_none, route_read)
 
 pub returns-then-not-follows : goal.returns-then-not-follows
 returns-then-not-follows c =
-    let here = route_read c.args.routes.now c.args.train (64 * c.from-start.result) c.from.result c.loop-i.i (omega arith) (omega arith) (omega arith) (omega arith) in
+    let here =
+    route_read c.args.routes.now c.args.train (64 * c.from-start.result) c.from.result c.loop-i.i
+    (omega arith) (omega arith) (omega arith) (omega arith) in
     searched_jump _ _ _ _ _ _ _ _ _ c.loop-i.invariant (omega arith) here (cc) (omega arith) (cc)
 
 pub loop-i-preserved : goal.loop-i-preserved
 loop-i-preserved c =
-    let here = route_read c.args.routes.now c.args.train (64 * c.from-start.result) c.from.result c.loop-i.i (omega arith) (omega arith) (omega arith) (omega arith) in
+    let here =
+    route_read c.args.routes.now c.args.train (64 * c.from-start.result) c.from.result c.loop-i.i
+    (omega arith) (omega arith) (omega arith) (omega arith) in
     let turn = searched_turn _ _ _ _ _ _ _ _ _ c.loop-i.invariant (omega arith) here (cc) in
     elim c.else-i-gt0.branch [
       | else-i-gt0-via-then-i-gt0+else-not-follows w ↦ turn (λ _. cc)

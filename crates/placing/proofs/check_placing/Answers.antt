@@ -11,7 +11,8 @@ pub returns-then-some_shape_faulty : goal.returns-then-some_shape_faulty
 returns-then-some_shape_faulty c = search (refused_10, answered)
 
 pub check_routes-requires : goal.check_routes-requires
-check_routes-requires c = few_trains _ _ (search (rules, length_mapped)) (answered _ _ _ c.some_shape_faulty.ensures c.if-some_shape_faulty.false)
+check_routes-requires c =
+    few_trains _ _ (search (rules, length_mapped)) (answered _ _ _ c.some_shape_faulty.ensures c.if-some_shape_faulty.false)
 
 pub returns-in_err-check_routes : goal.returns-in_err-check_routes
 returns-in_err-check_routes c =
@@ -23,7 +24,8 @@ returns-then-some_start_shared c =
     refused_12 _ _ _ _ _ _ _ c.in_ok-check_routes.ensures (cc) refl (cc)
 
 pub some_start_against-requires : goal.some_start_against-requires
-some_start_against-requires c = few_trains _ _ (search (rules, length_mapped)) (answered _ _ _ c.some_shape_faulty.ensures c.if-some_shape_faulty.false)
+some_start_against-requires c =
+    few_trains _ _ (search (rules, length_mapped)) (answered _ _ _ c.some_shape_faulty.ensures c.if-some_shape_faulty.false)
 
 pub returns-then-some_start_against : goal.returns-then-some_start_against
 returns-then-some_start_against c =

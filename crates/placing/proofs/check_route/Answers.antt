@@ -8,7 +8,8 @@ returns-then-r-eq0 c = searched_done _ _ _ _ _ _ _ 0 (searched_start _ _ _ _ _ _
 
 pub returns-then-not-contains : goal.returns-then-not-contains
 returns-then-not-contains c =
-    searched_nothing _ _ _ _ _ _ 0 0 (searched_start _ _ _ _ _ _) (omega arith) (route_outside _ _ 1 (search rules) (λ a b d e. grind arith))
+    searched_nothing _ _ _ _ _ _ 0 0 (searched_start _ _ _ _ _ _) (omega arith)
+    (route_outside _ _ 1 (search rules) (λ a b d e. grind arith))
 
 pub returns-else-d-eq0 : goal.returns-else-d-eq0
 returns-else-d-eq0 c = c.check_places-else-d-eq0.ensures ∙ route_back _ _ _ _ _ _ c.if-d-eq0.false

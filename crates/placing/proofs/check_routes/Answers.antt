@@ -12,10 +12,14 @@ loop-i-init c = search (rules, found_start)
 pub returns-in_err-check_route : goal.returns-in_err-check_route
 returns-in_err-check_route c =
     let p = err_from_is_err_and c.from_residual.result c.from_residual.ensures.1 in
-    rw (p.1, p.2) (routes_here _ _ _ _ _ _ _ _ c.loop-i.invariant (grind (arith, common_steps)) (search (rules, get_or-take)) c.in_err-check_route.ensures (file_coded _))
+    rw (p.1, p.2)
+    (routes_here _ _ _ _ _ _ _ _ c.loop-i.invariant (grind (arith, common_steps)) (search (rules, get_or-take))
+    c.in_err-check_route.ensures (file_coded _))
 
 pub loop-i-preserved : goal.loop-i-preserved
-loop-i-preserved c = routes_turn _ _ _ _ _ _ _ _ c.loop-i.invariant (grind (arith, common_steps)) (search (rules, get_or-take)) c.in_ok-check_route.ensures refl
+loop-i-preserved c =
+    routes_turn _ _ _ _ _ _ _ _ c.loop-i.invariant (grind (arith, common_steps)) (search (rules, get_or-take))
+    c.in_ok-check_route.ensures refl
 
 pub returns : goal.returns
 returns c = search (rules, routes_done)

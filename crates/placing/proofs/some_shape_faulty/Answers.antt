@@ -12,5 +12,6 @@ returns-then-k-gt16 c = lt-ltb _ _ c.if-k-gt16.true ∙ many_trains _ _ c.requir
 
 pub returns-else-k-gt16 : goal.returns-else-k-gt16
 returns-else-k-gt16 c =
-    any_numbered (λ p. route_shape_fault p.direction p.length) _ _ _ _ _ no_train_plan c.any.ensures.ran (YieldsList-from_slice _ c.iter.ensures.rest)
+    any_numbered (λ p. route_shape_fault p.direction p.length) _ _ _ _ _ no_train_plan c.any.ensures.ran
+    (YieldsList-from_slice _ c.iter.ensures.rest)
     (λ x b q k. search (rules, tests)) (grind (arith, common_steps)) (λ i k. grind (arith, common_steps, shape_at))

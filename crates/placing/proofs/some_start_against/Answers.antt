@@ -13,4 +13,5 @@ pub returns : goal.returns
 returns c =
     any_numbered (starts_against (way_in c.args.columns.now.ways) c.args.table.now.routes) _ _ _ _ _ (0, no_train_plan) c.any.ensures.ran
     (YieldsList-from_enumerate {s = c.enumerate.result} (YieldsList-from_slice (take c.from.result c.args.table.now.trains) (cc)) (cc))
-    (λ x b q k. search (rules, tests)) (grind (arith, common_steps, length-enumerate_from)) (λ i k. against_at _ _ _ _ i (grind (arith, common_steps)) (omega arith))
+    (λ x b q k. search (rules, tests)) (grind (arith, common_steps, length-enumerate_from))
+    (λ i k. against_at _ _ _ _ i (grind (arith, common_steps)) (omega arith))

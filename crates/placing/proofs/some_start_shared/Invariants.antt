@@ -2,5 +2,5 @@
 use Rattle.placing.proofs.Routes.{Begun}
 use Rattle.placing.proofs.some_start_shared.Given as goal
 
-abbrev pub invariant-loop-i : goal.invariant-loop-i
-invariant-loop-i l = Begun l.routes l.k l.i l.begun
+abbrev pub invariant-loop-number : goal.invariant-loop-number
+invariant-loop-number l = Begun l.routes l.number l.begun

@@ -52,7 +52,7 @@ fn segment_faulty(m: u8, s: u8, columns: &Columns) -> bool
 fn some_segment_faulty(n: u8, m: u8, columns: &Columns) -> bool
     ensures { result ≡ any_of n (segment_fault m (track_in columns.now.a columns.now.b) (way_in columns.now.ways)) }
 {
-    (1..=n).any(|s| segment_faulty(m, s, columns))
+    (0..n).any(|i| segment_faulty(m, i + 1, columns))
 }
 
 // A position that a box of this kind can have.

@@ -14,6 +14,7 @@ returns-in_default-clause-value c = search (rules, many_boxes)
 pub returns-clause-value : goal.returns-clause-value
 returns-clause-value c =
     let plans = c.args.plans.now in
-    let front = YieldsList-from_slice (take c.args.m plans) (grind (arith, common_steps)) in
-    any_from_yields_List (plan_fault c.args.n) _ _ _ c.any.ensures.ran front (λ x b q k. search (rules, tests))
+    any_from_yields_List (plan_fault c.args.n) _ _ _ c.any.ensures.ran
+    (YieldsList-from_slice (take c.args.m plans) (grind (arith, common_steps)))
+    (λ p b q k. search (rules, tests))
     ∙ any_listed (plan_fault c.args.n) plans no_box_plan (plan_fault_at c.args.n plans) c.args.m (search rules) (λ i h. plan_at c.args.n plans i)

@@ -1,3 +1,2 @@
 -- What the conditions say in the words of the functions that test them.
-pub mod AnyOf
 pub mod Routes

@@ -3,7 +3,7 @@ use Rattle.std.proofs.Common.{rules, tests, arith, not, eqb}
 use Rattle.std.proofs.lemmas.Iterator.{YieldsList-from_slice}
 use Rattle.std.proofs.lemmas.Grind.{common_steps}
 use Rattle.rules.specs.Network.{some_one_way}
-use Rattle.placing.proofs.AnyOf.{any_numbered}
+use Rattle.network.proofs.Any.{any_numbered}
 use Rattle.layout.proofs.some_one_way.Goals as goal
 
 pub returns : goal.returns

@@ -3,7 +3,7 @@ use Rattle.std.proofs.lemmas.Iterator.{YieldsList-from_slice}
 use Rattle.std.proofs.lemmas.Grind.{common_steps}
 use Rattle.rules.specs.Track.{no_train_plan}
 use Rattle.rules.specs.Placing.{route_shape_fault}
-use Rattle.placing.proofs.AnyOf.{any_numbered}
+use Rattle.network.proofs.Any.{any_numbered}
 use Rattle.placing.proofs.Routes.{many_trains, shape_at}
 use Rattle.placing.proofs.some_shape_faulty.Goals as goal
 

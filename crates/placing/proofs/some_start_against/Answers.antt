@@ -5,7 +5,7 @@ use Rattle.std.proofs.lemmas.Iterator.Consumers.{YieldsList-from_enumerate}
 use Rattle.std.proofs.lemmas.Grind.{common_steps}
 use Rattle.std.proofs.lemmas.List.FromFn.{length-enumerate_from}
 use Rattle.rules.specs.Track.{no_train_plan, way_in}
-use Rattle.placing.proofs.AnyOf.{any_numbered}
+use Rattle.network.proofs.Any.{any_numbered}
 use Rattle.placing.proofs.Routes.{starts_against, against_at}
 use Rattle.placing.proofs.some_start_against.Goals as goal
 

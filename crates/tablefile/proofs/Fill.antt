@@ -1,11 +1,11 @@
 -- Arrays that a loop fills list by list (record by record: Rows of `rules`).
 use Rattle.std.proofs.Common.{ℕ, zero, suc, ◌+◌, ◌-◌, ◌*◌, ◌≤◌, ◌<◌, min, ◌≡◌, refl, sym, ◌∙◌, ap, List, [], ◌∷◌, ◌++◌, append_assoc, length, take, replicate, length-append, length-take, take-take, take_all, arith}
-use Rattle.std.proofs.lemmas.List.{replicate-append-replicate, drop-replicate}
+use Rattle.std.proofs.lemmas.List.{replicate-append-replicate, take-replicate, drop-replicate}
 use Rattle.std.proofs.Math.Decide.{dec_lt}
 use Rattle.std.proofs.Math.Seq.{take-append_seam, take-append-add, drop-append_seam}
 use borrow.Rule.Slice.PartMut.{put_mid}
 use Rattle.rules.specs.Rows.{join_of, filled}
-use Rattle.rules.proofs.Rows.{join_more, join_length, filled-length, take-replicate}
+use Rattle.rules.proofs.Rows.{join_more, join_length, filled-length}
 
 module _ {A : Type 0} where
   -- A list filled up, by its length, and a list copied behind it.

@@ -16,14 +16,17 @@ ghost use Rattle.rules.specs.Errors.{stopped, effect_of};
 use rules::{BoxPlan, Changed, Request, StepError, SwitchBox};
 use traincomputer::Computer;
 
-// Code 13: kinds 1, 2, 7 and 8 have a box byte, kinds 3 to 6, 9 and 10 have none, and there is no other kind.
+// Code 13: kinds 1, 2, 7 and 8 have a box byte, kinds 3 to 6, 9 and 10 have none, and there is no other kind. That there is no such kind
+// is tested first, which is quicker on random bytes than arms side by side.
 #[tactic(auto, unfolding(rules::specs::Rows::first, rules::specs::Steps::form_rows, rules::specs::Steps::formed))]
 pub fn check_form(kind: u8, at: u8) -> Result<(), StepError>
     ensures { stopped result ≡ first (form_rows kind at) }
 {
     match kind {
-        1..=2 | 7..=8 => Ok(()),
-        3..=6 | 9..=10 if at == 0 => Ok(()),
+        1..=10 => match kind {
+            3..=6 | 9..=10 if at != 0 => Err(StepError::Malformed),
+            _ => Ok(()),
+        },
         _ => Err(StepError::Malformed),
     }
 }

@@ -77,6 +77,8 @@ module _ (version n m k : ℕ) (track : Track) (way : ℕ → ℕ) (plans : List
       unfolding parts_refusal
       placing_refuses network x is = refused_alike _ _ x _ is (sym (beyond_head ∙ network_clear (sym (code_of network))))
 
+pub ruleset refusals = (held_refuses, head_refuses, network_refuses, placing_refuses)
+
 -- What a function answered for the parts of a table, r, is why the table is refused.
 pub parts_answer : (t : Table) (r : Refusal) {track : Track} {way : ℕ → ℕ} → track ≡ track_of t → way ≡ way_of t
     → r ≡ parts_refusal t.version t.n t.m t.k track way t.boxes t.trains t.routes → r ≡ table_refusal t

@@ -67,6 +67,7 @@ pub fn check_head(version: u16, n: u8, m: u8, k: u8) -> Result<(), FileError>
 }
 
 // Whether a table record is accepted, by its parts and its columns: 3, 4, 6 to 10, 11 or 28, 12 and 32, in this order.
+#[tactic(auto, using(rules::proofs::Coded::file_coded, crate::proofs::Codes::refusals))]
 pub fn check_parts(table: &Table, columns: &Columns) -> Result<(), FileError>
     ensures { let t = table.now in
         let track = track_in columns.now.a columns.now.b in
@@ -82,6 +83,7 @@ pub fn check_parts(table: &Table, columns: &Columns) -> Result<(), FileError>
 }
 
 // Whether a table record is accepted.
+#[tactic(auto, using(crate::proofs::Codes::parts_answer))]
 pub fn check_table(table: &Table) -> Result<(), FileError>
     ensures { refused result ≡ table_refusal table.now }
 {

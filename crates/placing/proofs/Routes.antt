@@ -1,14 +1,12 @@
 -- What the conditions on routes say, in the words of the functions that test them.
-use Rattle.std.proofs.Common.{ℕ, zero, suc, ◌+◌, ◌-◌, ◌*◌, ◌≤◌, ◌<◌, ◌≡◌, refl, sym, ◌∙◌, ◌≢◌, Bool, true, false, eqb, List, length, get_or, set, take, drop, replicate, length-take-le, get_or-take, get_or-drop, length-set, get_or-set_same, get_or-set_other, arith, eq-eqb, ne_eqb, lt-ltb, le-ltb}
+use Rattle.std.proofs.Common.{ℕ, zero, suc, ◌+◌, ◌-◌, ◌*◌, ◌≤◌, ◌<◌, ◌≡◌, refl, sym, ◌∙◌, ◌≢◌, Bool, true, false, eqb, List, length, get_or, set, take, drop, replicate, length-take-le, get_or-take, get_or-drop, length-set, get_or-set_same, get_or-set_other, zero-add, arith, eq-eqb, ne_eqb, lt-ltb, le-ltb}
 use Rattle.std.proofs.Math.Decide.{ℕ_discrete, dec_lt}
 use Rattle.std.proofs.lemmas.Bool.{false≢true}
-use Rattle.std.proofs.lemmas.List.{length-replicate}
 use Rattle.std.proofs.lemmas.List.FromFn.{get_or-enumerate_from}
 use Rattle.std.specs.List.{enumerate_from}
-use native.Mathlib.Nat.{zero-add}
-use lib.ListN.{get_or-eq_default}
+use Rattle.std.proofs.lemmas.List.{get_or_past, length-replicate}
 use Rattle.rules.proofs.Tests.{tests}
-use Rattle.rules.proofs.Rows.{any_none, any_more, any_skip, any_found, none_found, nth_at, nth_past, replicate_at, route_index, route_before}
+use Rattle.rules.proofs.Rows.{any_none, any_more, any_skip, any_found, none_found, nth_at, nth_past, replicate_at, route_index, route_before, route_past}
 use Rattle.rules.proofs.RouteFault.{NoneFound, found_start, found_turn, found_here, found_done, first_same, found-tells}
 use Rattle.rules.proofs.Refusals.{code_of, refused_nowhere, refused_there}
 use Rattle.rules.specs.declared.TrainPlan.{TrainPlan}
@@ -48,7 +46,7 @@ route_outside routes (suc i) (suc p) e h =
       | no l ↦ rw (le-ltb p 64 (omega arith))
       | yes l ↦ elim (dec_lt i 16) [
         | yes k ↦ absurd (h (omega arith) (omega arith) (omega arith) (omega arith))
-        | no k ↦ rw (lt-ltb p 64 l) (get_or-eq_default routes 0 (omega arith))
+        | no k ↦ rw (lt-ltb p 64 l) (get_or_past routes _ 0 (omega arith))
       ]
     ]
 
@@ -109,6 +107,9 @@ module _ (n : ℕ) (track : Track) (routes : List ℕ) (i d r : ℕ) where
   pub searched_done : (before p : ℕ) → Searched n track routes i d r before p → r ≤ p → without_place 0 ≡ route_fault n track routes i d r
   unfolding route_fault
   searched_done before p h l = found_done r _ p h.yet l
+
+-- What the search answers at its ends.
+pub ruleset search_ends = (route_past, route_read, searched_none, searched_nothing, searched_done)
 
 -- Codes 11 and 28 in a direction are those in direction 0 on the track with the near ends for A ends and the far ends for B ends.
 abbrev turned : Track → Track
@@ -247,3 +248,5 @@ module _ (n k : ℕ) (track : Track) (way : ℕ → ℕ) (trains : List TrainPla
         pub refused_0 : any_of k (start_against_at way trains routes) ≡ false → RefusedBy (without_place 0)
         unfolding placing_rows tells_place first
         refused_0 along = refused_nowhere _ _ _ 0 refl refl (rw sound (search tests))
+
+pub ruleset refusals = (few_trains, refused_10, refused_found, refused_12, refused_32, refused_0)

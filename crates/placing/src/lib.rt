@@ -52,6 +52,7 @@ fn follows(before: u8, s: u8, near: &[u8; 256], far: &[u8; 256]) -> bool
 
 // Codes 11 and 28: the first place at fault of a train's route of length r, with the near ends for A ends and the far ends for B ends,
 // so that the direction is 0 and is not asked at each place.
+#[tactic(auto, using(crate::proofs::Routes::search_ends))]
 fn check_places(
     routes: &[u8],
     train: u8,
@@ -161,6 +162,7 @@ fn some_start_against(table: &Table, columns: &Columns) -> bool
 }
 
 // Codes 10 to 12, 28 and 32 of a table's trains: why a table with these trains is refused.
+#[tactic(auto, using(rules::proofs::Coded::file_coded, crate::proofs::Routes::refusals))]
 pub fn check_placing(table: &Table, columns: &Columns) -> Result<(), FileError>
     ensures { let t = table.now in
         let track = track_in columns.now.a columns.now.b in

@@ -1,14 +1,10 @@
-use Rattle.std.proofs.Common.{arith, rules, ◌≡◌, ◌*◌}
-use Rattle.rules.proofs.Rows.{route_past}
-use Rattle.placing.proofs.Routes.{route_read, searched_start, searched_none, searched_jump, searched_turn, searched_nothing, searched_done}
+use Rattle.std.proofs.Common.{arith, rules, ◌*◌}
+use Rattle.placing.proofs.Routes.{route_read, searched_start, searched_jump, searched_turn}
 use Rattle.placing.proofs.check_places.Goals as goal
 use Rattle.placing.proofs.check_places.Goals.{else-i-gt0-via-then-i-gt0+else-not-follows, else-i-gt0-via-else-i-gt0}
 
 pub loop-i-init : goal.loop-i-init
 loop-i-init c = search (rules, searched_start)
-
-pub returns-then-outside : goal.returns-then-outside
-returns-then-outside c = search (rules, searched_none, route_read)
 
 pub returns-then-not-follows : goal.returns-then-not-follows
 returns-then-not-follows c =
@@ -27,12 +23,3 @@ loop-i-preserved c =
       | else-i-gt0-via-then-i-gt0+else-not-follows w ↦ turn (λ _. cc)
       | else-i-gt0-via-else-i-gt0 w ↦ turn (λ l. absurd (omega arith))
     ]
-
-pub returns-then-r-gt64 : goal.returns-then-r-gt64
-returns-then-r-gt64 c =
-    let l = c.loop-i in
-    let e : l.i ≡ 64 = omega arith in
-    searched_nothing _ _ _ _ _ _ _ 64 (rw e at l.invariant) (omega arith) (route_past _ _ 65 (omega arith))
-
-pub returns : goal.returns
-returns c = search (rules, searched_done)

@@ -11,7 +11,8 @@ pub returns-then-rank-highest : goal.returns-then-rank-highest
 returns-then-rank-highest c = search passing_high
 
 turn : (c : Joined-ranks-y)
-    → Passing c.args.n (track_in c.args.columns.now.a c.args.columns.now.b) c.args.ranks.now c.if-ranks-y.ranks c.if-ranks-y.pass (c.loop-s.s + 1)
+    → Passing c.args.n (track_in c.args.columns.now.a c.args.columns.now.b) c.args.ranks.now
+    c.if-ranks-y.ranks c.if-ranks-y.pass (c.loop-s.s + 1)
 turn c =
     elim c.if-ranks-y.branch [
       | then-ranks-y+else-rank-highest w ↦ rw (w.ranks-is, w.pass-is) (search (rules, passing_raised))

@@ -17,4 +17,5 @@ returns-clause-value c =
     any_from_yields_List (plan_fault c.args.n) _ _ _ c.any.ensures.ran
     (YieldsList-from_slice (take c.args.m plans) (grind (arith, common_steps)))
     (λ p b q k. search (rules, tests))
-    ∙ any_listed (plan_fault c.args.n) plans no_box_plan (plan_fault_at c.args.n plans) c.args.m (search rules) (λ i h. plan_at c.args.n plans i)
+    ∙ any_listed (plan_fault c.args.n) plans no_box_plan (plan_fault_at c.args.n plans) c.args.m (search rules)
+    (λ i h. plan_at c.args.n plans i)

@@ -7,4 +7,5 @@ use Rattle.network.proofs.some_segment_faulty.Goals as goal
 pub returns : goal.returns
 returns c =
     let l = c.args.columns.now in
-    any_indexed (segment_fault c.args.m (track_in l.a l.b) (way_in l.ways)) c.args.n c.any.ensures.ran refl (λ i b q k. search (rules, tests))
+    any_indexed (segment_fault c.args.m (track_in l.a l.b) (way_in l.ways)) c.args.n c.any.ensures.ran refl
+    (λ i b q k. search (rules, tests))

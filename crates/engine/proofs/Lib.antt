@@ -1,2 +1,1 @@
 -- A single step on any record.
-pub mod Single

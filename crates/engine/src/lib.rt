@@ -1,23 +1,27 @@
 // The line engine: a single step on any line record, and a run of a table file and all its steps.
 #![tactic(auto)]
 
-ghost use Rattle.std.specs.Prelude.{◌≡◌};
-ghost use Rattle.rules.specs.Record.{checked_step};
+ghost use Rattle.std.specs.Prelude.{◌≡◌, false, IfOk};
+ghost use Rattle.rules.specs.Line.{around_train};
+ghost use Rattle.rules.specs.Steps.{step};
+ghost use Rattle.rules.specs.Record.{record_fault, checked_step};
+ghost use Rattle.rules.specs.Errors.{refused, outcome};
 ghost use Rattle.rules.specs.Run.{run, answered, SafeRun};
+ghost use Rattle.traincomputer.specs.Sight.{around_in};
+ghost use Rattle.engine.specs.Answer.{step_answer};
 
-use rules::{Effect, FileOutcome, Line, Outcome};
-use traincomputer::sight;
+use checking::boxes::some_box_record_faulty;
+use checking::trains::some_train_faulty;
+use columns::Columns;
+use rules::{BoxPlan, FileError, Line, Outcome, StepError, SwitchBox, Table};
+use traincomputer::{Computer, sight};
 
-// Runs a table file and all its steps, three bytes each: reads the table, takes every step, and puts the codes into the lent
-// buffer. It is refused as the file is, then with 26 where the buffer is shorter than the answers; with any code but 0 the buffer is
-// as it was. A last step of one or two bytes is answered 13 and changes nothing. What a run leaves and answers is what calls of `step`
-// one after the other do, and demand 3 holds of it.
-pub fn run(file: &[u8], steps: &[u8], answers: &mut [u8]) -> FileOutcome
-    ensures value { result ≡ run checked_step file.now steps.now answers.old }
-    ensures answers_after { answers.new ≡ answered checked_step file.now steps.now answers.old }
-    ensures safe_run { result.refusal.code ≡ 0 → SafeRun file.now steps.now result.line answers.old answers.new }
+ghost use Rattle.rules.specs.Track.{track_in, way_in};
+ghost use Rattle.rules.specs.Placing.{parts_refusal};
+fn check_parts(table: &Table, columns: &Columns) -> Result<(), FileError>
+    ensures { let t = table.now in refused result ≡ parts_refusal t.version t.n t.m t.k (track_in columns.now.a columns.now.b) (way_in columns.now.ways) t.boxes t.trains t.routes }
 {
-    running::run(file, steps, answers)
+    Ok(())
 }
 
 // A single step on any line record: 27 first, then 13, 14 and the rows of the step's kind. With 13 to 21, 27, 29 and 30 the line is as it
@@ -25,75 +29,46 @@ pub fn run(file: &[u8], steps: &[u8], answers: &mut [u8]) -> FileOutcome
 pub fn step(mut line: Line, kind: u8, train: u8, number: u8) -> Outcome
     ensures { result ≡ checked_step line (record { kind = kind; train = train; box = number }) }
 {
-    let segments = line.table.segments;
-    let plans = line.table.boxes;
-    let train_plans = line.table.trains;
-    let a = network::far_boxes(segments, 1);
-    let b = network::far_boxes(segments, 0);
-    let ways = network::ways(segments);
-    let kinds = sight::kinds(plans);
-    let refusal = layout::parts_refusal(
-        line.table.version,
-        line.table.n,
-        line.table.m,
-        line.table.k,
-        plans,
-        train_plans,
-        &line.table.routes,
-        &a,
-        &b,
-        &ways,
-    );
-    if refusal.code != 0 {
+    let columns = Columns::of(&line.table);
+    if check_parts(&line.table, &columns).is_err()
+        || some_train_faulty(&line, &columns)
+        || some_box_record_faulty(&line)
+    {
         return Outcome { code: 27, line };
     }
-    let trains = line.trains;
-    if checking::trains::some_train_faulty(
-        line.table.n,
-        line.table.k,
-        trains,
-        &line.routes,
-        &a,
-        &b,
-        &ways,
-        &kinds,
-    ) {
-        return Outcome { code: 27, line };
+    match take(&mut line, &columns, kind, train, number) {
+        Ok(code) => Outcome { code, line },
+        Err(error) => Outcome {
+            code: error.code(),
+            line,
+        },
     }
-    let boxes = line.boxes;
-    if checking::boxes::some_box_record_faulty(line.table.k, line.table.m, plans, boxes) {
-        return Outcome { code: 27, line };
-    }
-    let form = deciding::form_code(kind, number);
-    if form != 0 {
-        return Outcome { code: form, line };
-    }
+}
+
+// The step itself, on a line that 27 passes, with the columns of its table: 13 and 14, and what is decided by its kind.
+fn take(line: &mut Line, columns: &Columns, kind: u8, train: u8, number: u8) -> Result<u8, StepError>
+    requires sound { record_fault line.old ≡ false }
+    requires shown { around_in columns.now.a columns.now.b columns.now.ways columns.now.kinds line.old.routes ≡ around_train line.old.table line.old.routes }
+    ensures { record { code = step_answer result; line = line.new } ≡ step line.old (record { kind = kind; train = train; box = number }) }
+{
+    deciding::check_form(kind, number)?;
     if network::outside(line.table.k, train) {
-        return Outcome { code: 14, line };
+        return Err(StepError::NoSuchTrain);
     }
-    let i = (train - 1) as usize;
-    let r = trains[i];
-    let v = sight::around(train, r, &line.routes, &a, &b, &ways, &kinds);
-    let concerned = deciding::concerned(kind, v, r);
+    let i = usize::from(train - 1);
+    let r = line.trains[i];
+    let around = sight::around(train, r, &line.routes, columns);
+    let computer = Computer { around, train: r };
+    let concerned = deciding::concerned(kind, computer);
     if concerned == 0 {
-        let d = deciding::decide(kind, number, v, r, deciding::no_plan(), deciding::no_box());
-        match d {
-            Effect::Refused(code) => Outcome { code, line },
-            Effect::Changed(code, train_after, _) => {
-                line.trains[i] = train_after;
-                Outcome { code, line }
-            }
-        }
+        let changed = deciding::decide(kind, number, computer, BoxPlan::default(), SwitchBox::default())?;
+        line.trains[i] = changed.train;
+        Ok(changed.code)
     } else {
-        let j = (concerned - 1) as usize;
-        let d = deciding::decide(kind, number, v, r, plans[j], boxes[j]);
-        match d {
-            Effect::Refused(code) => Outcome { code, line },
-            Effect::Changed(code, train_after, box_after) => {
-                line.trains[i] = train_after;
-                line.boxes[j] = box_after;
-                Outcome { code, line }
-            }
-        }
+        let j = usize::from(concerned - 1);
+        let changed = deciding::decide(kind, number, computer, line.table.boxes[j], line.boxes[j])?;
+        line.trains[i] = changed.train;
+        line.boxes[j] = changed.switchbox;
+        Ok(changed.code)
     }
 }

@@ -1,1 +1,2 @@
--- A single step on any record.
+-- A single step.
+pub mod Single

@@ -2,6 +2,7 @@
 #![tactic(auto)]
 
 ghost use Rattle.std.specs.Prelude.{◌≡◌, false, IfOk};
+ghost use Rattle.rules.specs.Rows.{nth, set_nth};
 ghost use Rattle.rules.specs.Line.{around_train};
 ghost use Rattle.rules.specs.Steps.{step};
 ghost use Rattle.rules.specs.Record.{record_fault, checked_step};
@@ -13,7 +14,7 @@ ghost use Rattle.engine.specs.Answer.{step_answer};
 use checking::boxes::some_box_record_faulty;
 use checking::trains::some_train_faulty;
 use columns::Columns;
-use rules::{BoxPlan, FileError, Line, Outcome, StepError, SwitchBox, Table};
+use rules::{BoxPlan, FileError, Line, Outcome, StepError, SwitchBox, Table, Train};
 use traincomputer::{Computer, sight};
 
 ghost use Rattle.rules.specs.Track.{track_in, way_in};
@@ -45,30 +46,47 @@ pub fn step(mut line: Line, kind: u8, train: u8, number: u8) -> Outcome
     }
 }
 
-// The step itself, on a line that 27 passes, with the columns of its table: 13 and 14, and what is decided by its kind.
+// The record with this number, counted from 1, or `none`.
+#[tactic(auto, unfolding(rules::specs::Rows::nth))]
+fn nth<T: Copy>(records: &[T], number: u8, none: T) -> T
+    ensures { result ≡ nth records.now number none }
+{
+    let number = usize::from(number);
+    if (1..=records.len()).contains(&number) {
+        records[number - 1]
+    } else {
+        none
+    }
+}
+
+// Replaces the record with this number, where there is one.
+#[tactic(auto, unfolding(rules::specs::Rows::set_nth))]
+fn set_nth<T: Copy>(records: &mut [T], number: u8, to: T)
+    ensures { records.new ≡ set_nth records.old number to }
+{
+    let number = usize::from(number);
+    if (1..=records.len()).contains(&number) {
+        records[number - 1] = to;
+    }
+}
+
+// The step itself, 27 aside, with the columns of the line's table: 13 and 14, and what is decided by its kind.
 fn take(line: &mut Line, columns: &Columns, kind: u8, train: u8, number: u8) -> Result<u8, StepError>
-    requires sound { record_fault line.old ≡ false }
-    requires shown { around_in columns.now.a columns.now.b columns.now.ways columns.now.kinds line.old.routes ≡ around_train line.old.table line.old.routes }
+    requires { around_in columns.now.a columns.now.b columns.now.ways columns.now.kinds line.old.routes ≡ around_train line.old.table line.old.routes }
     ensures { record { code = step_answer result; line = line.new } ≡ step line.old (record { kind = kind; train = train; box = number }) }
 {
     deciding::check_form(kind, number)?;
     if network::outside(line.table.k, train) {
         return Err(StepError::NoSuchTrain);
     }
-    let i = usize::from(train - 1);
-    let r = line.trains[i];
+    let r = nth(&line.trains, train, Train::default());
     let around = sight::around(train, r, &line.routes, columns);
     let computer = Computer { around, train: r };
-    let concerned = deciding::concerned(kind, computer);
-    if concerned == 0 {
-        let changed = deciding::decide(kind, number, computer, BoxPlan::default(), SwitchBox::default())?;
-        line.trains[i] = changed.train;
-        Ok(changed.code)
-    } else {
-        let j = usize::from(concerned - 1);
-        let changed = deciding::decide(kind, number, computer, line.table.boxes[j], line.boxes[j])?;
-        line.trains[i] = changed.train;
-        line.boxes[j] = changed.switchbox;
-        Ok(changed.code)
-    }
+    let at = deciding::concerned(kind, computer);
+    let plan = nth(&line.table.boxes, at, BoxPlan::default());
+    let state = nth(&line.boxes, at, SwitchBox::default());
+    let done = deciding::decide(kind, number, computer, plan, state)?;
+    set_nth(&mut line.trains, train, done.train);
+    set_nth(&mut line.boxes, at, done.switchbox);
+    Ok(done.code)
 }

@@ -1,0 +1,41 @@
+-- A single step: what is looked up on the line and decided for it is the step of `rules`.
+use Rattle.std.proofs.Common.{◌≡◌, ℕ, Bool, true, false, List, refl, sym}
+use Rattle.rules.specs.declared.BoxPlan.{BoxPlan}
+use Rattle.rules.specs.declared.SwitchBox.{SwitchBox}
+use Rattle.rules.specs.declared.Train.{Train}
+use Rattle.rules.specs.declared.Line.{Line}
+use Rattle.rules.specs.declared.Around.{Around}
+use Rattle.rules.specs.declared.errors.StepError.{StepError}
+use Rattle.rules.specs.Ends.{Effect}
+use Rattle.rules.specs.Errors.{step_code}
+use Rattle.rules.specs.Rows.{first, outside, nth}
+use Rattle.rules.specs.Track.{no_box_plan, plan_at}
+use Rattle.rules.specs.Line.{no_box, no_train, around_train, around, box_at, train_at}
+use Rattle.rules.specs.Steps.{Step, apply, form_rows, concerned_box, effect, step}
+use Rattle.rules.proofs.Coded.{step_coded}
+use Rattle.rules.proofs.Steps.{form_row_iff, box_here, effect_here, step_unformed, step_unknown, step_taken}
+use Rattle.traincomputer.specs.Sight.{around_in}
+
+module _ (l : Line) (s : Step) where
+  -- 13, and 14.
+  pub unformed : (e : StepError) → step_code e ≡ first (form_rows s.kind s.box) → record { code = step_code e; line = l } ≡ step l s
+  unformed e is = step_unformed l s (step_code e) is (step_coded e)
+
+  module _ (form : 0 ≡ first (form_rows s.kind s.box)) where
+    pub unknown : true ≡ outside l.table.k s.train → record { code = 14; line = l } ≡ step l s
+    unknown out = step_unknown l s ((form_row_iff _ _).0 (sym form)) (sym out)
+
+    -- What is decided of the train with record r, around which v stands, at box e with plan p and state x.
+    pub decided : (a b ways kinds : List ℕ) {t r : Train} {v : Around} {e : ℕ} {q p : BoxPlan} {y x : SwitchBox} {d : Effect} → false ≡ outside l.table.k s.train
+        → around_in a b ways kinds l.routes ≡ around_train l.table l.routes → t ≡ no_train → r ≡ nth l.trains s.train t
+        → v ≡ around_in a b ways kinds l.routes s.train r → e ≡ concerned_box s.kind v r → q ≡ no_box_plan → p ≡ nth l.table.boxes e q
+        → y ≡ no_box → x ≡ nth l.boxes e y → d ≡ effect s.kind s.box v r p x → apply l s.train e d ≡ step l s
+    unfolding around train_at plan_at box_at
+    decided a b ways kinds {r = r} {v = v} {e = e} {p = p} {x = x} inside shown no-train train view at no-plan plan no-state state done =
+        let number = (form_row_iff _ _).0 (sym form) in
+        let read : r ≡ train_at l s.train = rw no-train at train in
+        let seen : v ≡ around l s.train = rw (read, shown) at view in
+        let here : e ≡ box_here l s = rw (seen, read) at at in
+        let planned : p ≡ plan_at l.table (box_here l s) = rw (no-plan, here) at plan in
+        let stands : x ≡ box_at l (box_here l s) = rw (no-state, here) at state in
+        rw (here, done, planned, stands, seen, read) (step_taken l s number (sym inside))

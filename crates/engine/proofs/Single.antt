@@ -1,17 +1,25 @@
 -- A single step: what is looked up on the line and decided for it is the step of `rules`.
-use Rattle.std.proofs.Common.{◌≡◌, ℕ, Bool, true, false, List, refl, sym}
+use Rattle.std.proofs.Common.{◌≡◌, ◌∙◌, ℕ, Bool, true, false, not, ◌||◌, eqb, ltb, List, Result, refl, sym, ap, le-ltb, eqb-true}
+use Rattle.std.specs.Prelude.{is_err}
+use Rattle.std.proofs.lemmas.Bool.{not-false}
 use Rattle.rules.specs.declared.BoxPlan.{BoxPlan}
 use Rattle.rules.specs.declared.SwitchBox.{SwitchBox}
 use Rattle.rules.specs.declared.Train.{Train}
 use Rattle.rules.specs.declared.Line.{Line}
 use Rattle.rules.specs.declared.Around.{Around}
+use Rattle.rules.specs.declared.errors.FileError.{FileError}
 use Rattle.rules.specs.declared.errors.StepError.{StepError}
 use Rattle.rules.specs.Ends.{Effect}
-use Rattle.rules.specs.Errors.{step_code}
+use Rattle.rules.specs.Errors.{refused, step_code}
 use Rattle.rules.specs.Rows.{first, outside, nth}
-use Rattle.rules.specs.Track.{no_box_plan, plan_at}
+use Rattle.rules.specs.Track.{Track, track_of, way_of, point_at, no_box_plan, plan_at}
+use Rattle.rules.specs.Placing.{table_code, parts_refusal, table_refusal}
 use Rattle.rules.specs.Line.{no_box, no_train, around_train, around, box_at, train_at}
 use Rattle.rules.specs.Steps.{Step, apply, form_rows, concerned_box, effect, step}
+use Rattle.rules.specs.Record.{trains_fault, switch_boxes_fault, record_fault}
+use Rattle.rules.proofs.Refusals.{table_coded}
+use Rattle.rules.proofs.Accepted.{accepted}
+use Rattle.checking.proofs.Laws.{refused_tested}
 use Rattle.rules.proofs.Coded.{step_coded}
 use Rattle.rules.proofs.Steps.{form_row_iff, box_here, effect_here, step_unformed, step_unknown, step_taken}
 use Rattle.traincomputer.specs.Sight.{around_in}
@@ -39,3 +47,25 @@ module _ (l : Line) (s : Step) where
         let planned : p ≡ plan_at l.table (box_here l s) = rw (no-plan, here) at plan in
         let stands : x ≡ box_at l (box_here l s) = rw (no-state, here) at state in
         rw (here, done, planned, stands, seen, read) (step_taken l s number (sym inside))
+
+-- Code 27 by its three parts, as they are looked up: r is what is found at the table.
+module _ {A : Type 0} (l : Line) {track : Track} {way : ℕ → ℕ} {point : ℕ → Bool} (r : Result A FileError)
+    (on : track ≡ track_of l.table) (ways : way ≡ way_of l.table) (points : point ≡ point_at l.table)
+    (told : refused r ≡ parts_refusal l.table.version l.table.n l.table.m l.table.k track way l.table.boxes l.table.trains l.table.routes) where
+  abbrev at_trains : Bool
+  at_trains = trains_fault l.table.n l.table.k track way point l.routes l.trains
+
+  abbrev at_boxes : Bool
+  at_boxes = ltb 96 l.table.m || switch_boxes_fault l.table.k l.table.m l.table.boxes l.boxes
+
+  parts : (b : Bool) → b ≡ not (eqb (table_code l.table) 0) → record_fault l ≡ (b || at_trains || at_boxes)
+  unfolding record_fault
+  parts true e = rw (← e) refl
+  parts false e =
+      let high = (accepted l.table (eqb-true _ 0 (not-false _ (sym e)))).limits.boxes_high in
+      rw (← e, le-ltb 96 l.table.m high, on, ways, points) refl
+
+  pub by_parts : record_fault l ≡ (is_err r || at_trains || at_boxes)
+  unfolding table_refusal
+  by_parts =
+      parts (is_err r) (refused_tested r _ (rw (on, ways) at told) ∙ ap (λ c. not (eqb c 0)) (table_coded l.table))

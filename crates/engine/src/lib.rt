@@ -3,6 +3,7 @@
 
 ghost use Rattle.std.specs.Prelude.{◌≡◌, false, IfOk};
 ghost use Rattle.rules.specs.Rows.{nth, set_nth};
+ghost use Rattle.rules.specs.Track.{track_in, track_of, way_in, way_of, point_in, point_at};
 ghost use Rattle.rules.specs.Line.{around_train};
 ghost use Rattle.rules.specs.Steps.{step};
 ghost use Rattle.rules.specs.Record.{record_fault, checked_step};
@@ -14,27 +15,29 @@ ghost use Rattle.engine.specs.Answer.{step_answer};
 use checking::boxes::some_box_record_faulty;
 use checking::trains::some_train_faulty;
 use columns::Columns;
-use rules::{BoxPlan, FileError, Line, Outcome, StepError, SwitchBox, Table, Train};
+use rules::{BoxPlan, Line, Outcome, StepError, SwitchBox, Train};
 use traincomputer::{Computer, sight};
 
-ghost use Rattle.rules.specs.Track.{track_in, way_in};
-ghost use Rattle.rules.specs.Placing.{parts_refusal};
-fn check_parts(table: &Table, columns: &Columns) -> Result<(), FileError>
-    ensures { let t = table.now in refused result ≡ parts_refusal t.version t.n t.m t.k (track_in columns.now.a columns.now.b) (way_in columns.now.ways) t.boxes t.trains t.routes }
+// Code 27, with the columns of the line's table.
+fn record_faulty(line: &Line, columns: &Columns) -> bool
+    requires track { track_in columns.now.a columns.now.b ≡ track_of line.now.table }
+    requires way { way_in columns.now.ways ≡ way_of line.now.table }
+    requires points { point_in columns.now.kinds ≡ point_at line.now.table }
+    ensures { result ≡ record_fault line.now }
 {
-    Ok(())
+    layout::check_parts(&line.table, columns).is_err()
+        || some_train_faulty(line, columns)
+        || some_box_record_faulty(line)
 }
 
 // A single step on any line record: 27 first, then 13, 14 and the rows of the step's kind. With 13 to 21, 27, 29 and 30 the line is as it
 // was.
+#[tactic(auto, unfolding(rules::specs::Record::checked_step))]
 pub fn step(mut line: Line, kind: u8, train: u8, number: u8) -> Outcome
     ensures { result ≡ checked_step line (record { kind = kind; train = train; box = number }) }
 {
     let columns = Columns::of(&line.table);
-    if check_parts(&line.table, &columns).is_err()
-        || some_train_faulty(&line, &columns)
-        || some_box_record_faulty(&line)
-    {
+    if record_faulty(&line, &columns) {
         return Outcome { code: 27, line };
     }
     match take(&mut line, &columns, kind, train, number) {

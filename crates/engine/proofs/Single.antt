@@ -8,9 +8,8 @@ use Rattle.rules.specs.declared.Train.{Train}
 use Rattle.rules.specs.declared.Line.{Line}
 use Rattle.rules.specs.declared.Around.{Around}
 use Rattle.rules.specs.declared.errors.FileError.{FileError}
-use Rattle.rules.specs.declared.errors.StepError.{StepError}
 use Rattle.rules.specs.Ends.{Effect}
-use Rattle.rules.specs.Errors.{refused, step_code}
+use Rattle.rules.specs.Errors.{refused}
 use Rattle.rules.specs.Rows.{first, outside, nth}
 use Rattle.rules.specs.Track.{Track, track_of, way_of, point_at, no_box_plan, plan_at}
 use Rattle.rules.specs.Placing.{table_code, parts_refusal, table_refusal}
@@ -20,16 +19,12 @@ use Rattle.rules.specs.Record.{trains_fault, switch_boxes_fault, record_fault}
 use Rattle.rules.proofs.Refusals.{table_coded}
 use Rattle.rules.proofs.Accepted.{accepted}
 use Rattle.checking.proofs.Laws.{refused_tested}
-use Rattle.rules.proofs.Coded.{step_coded}
-use Rattle.rules.proofs.Steps.{form_row_iff, box_here, effect_here, step_unformed, step_unknown, step_taken}
+use Rattle.rules.proofs.Steps.{form_row_iff, box_here, step_unknown, step_taken}
 use Rattle.traincomputer.specs.Sight.{around_in}
 
 module _ (l : Line) (s : Step) where
-  -- 13, and 14.
-  pub unformed : (e : StepError) → step_code e ≡ first (form_rows s.kind s.box) → record { code = step_code e; line = l } ≡ step l s
-  unformed e is = step_unformed l s (step_code e) is (step_coded e)
-
   module _ (form : 0 ≡ first (form_rows s.kind s.box)) where
+    -- 14.
     pub unknown : true ≡ outside l.table.k s.train → record { code = 14; line = l } ≡ step l s
     unknown out = step_unknown l s ((form_row_iff _ _).0 (sym form)) (sym out)
 

@@ -1,22 +1,34 @@
 // The line engine: a single step on any line record, and a run of a table file and all its steps.
 #![tactic(auto)]
 
-ghost use Rattle.std.specs.Prelude.{◌≡◌, false, IfOk};
+ghost use Rattle.std.specs.Prelude.{◌≡◌, IfOk};
 ghost use Rattle.rules.specs.Rows.{nth, set_nth};
 ghost use Rattle.rules.specs.Track.{track_in, track_of, way_in, way_of, point_in, point_at};
 ghost use Rattle.rules.specs.Line.{around_train};
 ghost use Rattle.rules.specs.Steps.{step};
 ghost use Rattle.rules.specs.Record.{record_fault, checked_step};
-ghost use Rattle.rules.specs.Errors.{refused, outcome};
+ghost use Rattle.rules.specs.Errors.{outcome};
 ghost use Rattle.rules.specs.Run.{run, answered, SafeRun};
 ghost use Rattle.traincomputer.specs.Sight.{around_in};
-ghost use Rattle.engine.specs.Answer.{step_answer};
+ghost use Rattle.running.specs.Loop.{step_answer};
 
 use checking::boxes::some_box_record_faulty;
 use checking::trains::some_train_faulty;
 use columns::Columns;
-use rules::{BoxPlan, Line, Outcome, StepError, SwitchBox, Train};
+use rules::{BoxPlan, FileError, Line, Outcome, StepError, SwitchBox, Train};
 use traincomputer::{Computer, sight};
+
+// Runs a table file and all its steps, three bytes each: reads the table, takes every step, and puts the codes into the lent
+// buffer. It is refused as the file is, then with 26 where the buffer is shorter than the answers; with an error the buffer is
+// as it was. A last step of one or two bytes is answered 13 and changes nothing. What a run leaves and answers is what calls of `step`
+// one after the other do, and demand 3 holds of it.
+pub fn run(file: &[u8], steps: &[u8], answers: &mut [u8]) -> Result<Line, FileError>
+    ensures value { outcome result ≡ run checked_step file.now steps.now answers.old }
+    ensures answers_after { answers.new ≡ answered checked_step file.now steps.now answers.old }
+    ensures safe_run { IfOk result (λ line. SafeRun file.now steps.now line answers.old answers.new) }
+{
+    running::run(file, steps, answers)
+}
 
 // Code 27, with the columns of the line's table.
 fn record_faulty(line: &Line, columns: &Columns) -> bool
@@ -74,7 +86,13 @@ fn set_nth<T: Copy>(records: &mut [T], number: u8, to: T)
 }
 
 // The step itself, 27 aside, with the columns of the line's table: 13 and 14, and what is decided by its kind.
-fn take(line: &mut Line, columns: &Columns, kind: u8, train: u8, number: u8) -> Result<u8, StepError>
+fn take(
+    line: &mut Line,
+    columns: &Columns,
+    kind: u8,
+    train: u8,
+    number: u8,
+) -> Result<u8, StepError>
     requires { around_in columns.now.a columns.now.b columns.now.ways columns.now.kinds line.old.routes ≡ around_train line.old.table line.old.routes }
     ensures { record { code = step_answer result; line = line.new } ≡ step line.old (record { kind = kind; train = train; box = number }) }
 {

@@ -1,9 +1,9 @@
 use Rattle.std.proofs.Common.{rules}
-use Rattle.rules.specs.Rows.{set_nth}
 use Rattle.rules.specs.Line.{put_train, put_box}
 use Rattle.rules.specs.Steps.{apply}
 use Rattle.std.proofs.lemmas.Result.{err_from_is_err_and}
-use Rattle.engine.proofs.Single.{unformed, unknown, decided}
+use Rattle.engine.proofs.Single.{unknown, decided}
+use Rattle.running.proofs.Turn.{unformed}
 use Rattle.engine.proofs.take.Goals as goal
 
 pub returns-in_err-check_form : goal.returns-in_err-check_form

@@ -59,17 +59,17 @@ segment_size_most version = by (has_ways version)
     by false = omega arith
 
 -- The record of segment i + 1, box i + 1 and train i + 1.
-pub segment_bytes_lem : (t : Table) (i : ℕ) → i < t.n → let s = get_or (take t.n t.segments) i no_segment in segment_bytes t (i + 1) ≡ take (segment_size t.version) (s.a ∷ s.b ∷ s.way ∷ [])
+pub segment_bytes_lem : (t : Table) (i n size : ℕ) → i < n → size ≡ segment_size t.version → let s = get_or (take n t.segments) i no_segment in segment_bytes t (i + 1) ≡ take size (s.a ∷ s.b ∷ s.way ∷ [])
 unfolding segment_bytes segment_at segment_size
-segment_bytes_lem t i h = rw (nth_at, get_or-take) (by (has_ways t.version) _ _ _)
+segment_bytes_lem t i n size h e = rw (nth_at, get_or-take, e) (by (has_ways t.version) _ _ _)
   where
     by : (b : Bool) (x y z : ℕ) → x ∷ y ∷ cond b (z ∷ []) [] ≡ take (cond b 3 2) (x ∷ y ∷ z ∷ [])
     by true x y z = refl
     by false x y z = refl
 
-pub box_bytes_lem : (t : Table) (i : ℕ) → i < t.m → let p = get_or (take t.m t.boxes) i no_box_plan in box_bytes t (i + 1) ≡ p.kind ∷ p.stem ∷ p.left ∷ p.right ∷ p.position ∷ []
+pub box_bytes_lem : (t : Table) (i n : ℕ) → i < n → let p = get_or (take n t.boxes) i no_box_plan in box_bytes t (i + 1) ≡ p.kind ∷ p.stem ∷ p.left ∷ p.right ∷ p.position ∷ []
 unfolding box_bytes plan_at
-box_bytes_lem t i h = rw (nth_at, get_or-take)
+box_bytes_lem t i n h = rw (nth_at, get_or-take)
 
 -- The first n places of a train's route, as a part of the routes.
 route_bytes : (routes : List ℕ) (i n : ℕ) → i < 16 → n ≤ 64 → length routes ≡ 1024 → list_of n (route_at routes (i + 1)) ≡ take n (take (1024 - 64 * i) (drop (64 * i) routes))
@@ -79,16 +79,17 @@ route_bytes routes i n h k e =
     let within : p < 1024 - 64 * i = omega arith in
     list_at _ n p 0 below ∙ route_at_lem routes i p (omega arith) ∙ sym (rw (get_or-take, get_or-take, get_or-drop))
 
-pub plan_bounded : (t : Table) (i : ℕ) → Bounded t → i < t.k → (get_or (take t.k t.trains) i no_train_plan).length ≤ 64
+pub plan_bounded : (t : Table) (i n : ℕ) → Bounded t → i < n → n ≡ t.k → (get_or (take n t.trains) i no_train_plan).length ≤ 64
 unfolding train_plan_at
-plan_bounded t i b h = rw get_or-take (rw nth_at at (b.routes i h))
+plan_bounded t i n b h e = rw get_or-take (rw nth_at at (b.routes i (omega arith)))
 
-pub train_bytes_lem : (t : Table) (i : ℕ) → Bounded t → i < t.k → length t.routes ≡ 1024 → let p = get_or (take t.k t.trains) i no_train_plan in train_bytes t (i + 1) ≡ p.direction ∷ p.length ∷ take p.length (take (1024 - 64 * i) (drop (64 * i) t.routes))
+pub train_bytes_lem : (t : Table) (i n m : ℕ) → Bounded t → i < n → n ≡ t.k → length t.routes ≡ 1024 → let p = get_or (take n t.trains) i no_train_plan in m ≡ p.length
+    → train_bytes t (i + 1) ≡ p.direction ∷ p.length ∷ take m (take (1024 - 64 * i) (drop (64 * i) t.routes))
 unfolding train_bytes train_plan_at
-train_bytes_lem t i b h e =
-    let plan = get_or (take t.k t.trains) i no_train_plan in
-    let r = route_bytes t.routes i plan.length (omega (arith, b.trains)) (plan_bounded t i b h) e in
-    rw (nth_at, ← get_or-take t.k t.trains i no_train_plan h, r)
+train_bytes_lem t i n m b h k e l =
+    let plan = get_or (take n t.trains) i no_train_plan in
+    let r = route_bytes t.routes i plan.length (omega (arith, b.trains)) (plan_bounded t i n b h k) e in
+    rw (nth_at, ← get_or-take n t.trains i no_train_plan h, l, r)
 
 -- The i-th of joined lists ends within them.
 join_grows : (f : ℕ → List ℕ) (i m : ℕ) → length (join_of i f) ≤ length (join_of (i + m) f)

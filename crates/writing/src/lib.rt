@@ -20,15 +20,15 @@ fn route_bytes(plans: &[TrainPlan]) -> u16
 }
 
 // The length of the file of a table record.
-pub fn file_size(t: &Table) -> usize
-    ensures { result ≡ length (encode t.now) }
+pub fn file_size(table: &Table) -> usize
+    ensures { result ≡ length (encode table.now) }
 {
-    let k = t.k as usize;
-    let width = layout::segment_size(t.version) as usize;
-    8 + width * t.n as usize
-        + 5 * t.m as usize
+    let k = usize::from(table.k);
+    let width = usize::from(layout::segment_size(table.version));
+    8 + width * usize::from(table.n)
+        + 5 * usize::from(table.m)
         + 2 * k
-        + route_bytes(&t.trains[..k.min(16)]) as usize
+        + usize::from(route_bytes(&table.trains[..k.min(16)]))
 }
 
 // The writer: refused as the table is, then with 26; on success the file at the front of the buffer, else the buffer as it was.

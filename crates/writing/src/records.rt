@@ -9,59 +9,59 @@ use rules::Table;
 
 // The head.
 #[tactic(auto, using(crate::proofs::Laws::written_append), unfolding(rules::specs::File::head_bytes))]
-fn put_head(t: &Table, pen: &mut Pen)
-    requires { HasRoom pen.old (length (head_bytes t.now)) }
-    ensures { Written pen.old (head_bytes t.now) pen.new }
+fn put_head(table: &Table, pen: &mut Pen)
+    requires { HasRoom pen.old (length (head_bytes table.now)) }
+    ensures { Written pen.old (head_bytes table.now) pen.new }
 {
     pen.put(b"NET");
-    pen.put(&t.version.to_be_bytes());
-    pen.put(&[t.n, t.m, t.k]);
+    pen.put(&table.version.to_be_bytes());
+    pen.put(&[table.n, table.m, table.k]);
 }
 
 // The segment records.
-fn put_segments(t: &Table, pen: &mut Pen)
-    requires bounded { Bounded t.now }
-    requires room { HasRoom pen.old (length (join_of t.now.n (segment_bytes t.now))) }
-    ensures { Written pen.old (join_of t.now.n (segment_bytes t.now)) pen.new }
+fn put_segments(table: &Table, pen: &mut Pen)
+    requires bounded { Bounded table.now }
+    requires room { HasRoom pen.old (length (join_of table.now.n (segment_bytes table.now))) }
+    ensures { Written pen.old (join_of table.now.n (segment_bytes table.now)) pen.new }
 {
-    let size = layout::segment_size(t.version) as usize;
-    for s in &t.segments[..t.n as usize] {
+    let size = usize::from(layout::segment_size(table.version));
+    for s in &table.segments[..usize::from(table.n)] {
         pen.put(&[s.a, s.b, s.way][..size]);
     }
 }
 
 // The box records.
-fn put_boxes(t: &Table, pen: &mut Pen)
-    requires bounded { Bounded t.now }
-    requires room { HasRoom pen.old (length (join_of t.now.m (box_bytes t.now))) }
-    ensures { Written pen.old (join_of t.now.m (box_bytes t.now)) pen.new }
+fn put_boxes(table: &Table, pen: &mut Pen)
+    requires bounded { Bounded table.now }
+    requires room { HasRoom pen.old (length (join_of table.now.m (box_bytes table.now))) }
+    ensures { Written pen.old (join_of table.now.m (box_bytes table.now)) pen.new }
 {
-    for p in &t.boxes[..t.m as usize] {
+    for p in &table.boxes[..usize::from(table.m)] {
         pen.put(&[p.kind, p.stem, p.left, p.right, p.position]);
     }
 }
 
 // The train records, each with its route after it.
-fn put_trains(t: &Table, pen: &mut Pen)
-    requires bounded { Bounded t.now }
-    requires room { HasRoom pen.old (length (join_of t.now.k (train_bytes t.now))) }
-    ensures { Written pen.old (join_of t.now.k (train_bytes t.now)) pen.new }
+fn put_trains(table: &Table, pen: &mut Pen)
+    requires bounded { Bounded table.now }
+    requires room { HasRoom pen.old (length (join_of table.now.k (train_bytes table.now))) }
+    ensures { Written pen.old (join_of table.now.k (train_bytes table.now)) pen.new }
 {
-    for (i, p) in t.trains[..t.k as usize].iter().enumerate() {
+    for (i, p) in table.trains[..usize::from(table.k)].iter().enumerate() {
         pen.put(&[p.direction, p.length]);
-        pen.put(&t.routes[64 * i..][..p.length as usize]);
+        pen.put(&table.routes[64 * i..][..usize::from(p.length)]);
     }
 }
 
 // The file.
 #[tactic(auto, using(crate::proofs::Laws::encode_length, crate::proofs::Laws::written_file))]
-pub(crate) fn put_file(t: &Table, pen: &mut Pen)
-    requires bounded { Bounded t.now }
-    requires room { HasRoom pen.old (length (encode t.now)) }
-    ensures { Written pen.old (encode t.now) pen.new }
+pub(crate) fn put_file(table: &Table, pen: &mut Pen)
+    requires bounded { Bounded table.now }
+    requires room { HasRoom pen.old (length (encode table.now)) }
+    ensures { Written pen.old (encode table.now) pen.new }
 {
-    put_head(t, pen);
-    put_segments(t, pen);
-    put_boxes(t, pen);
-    put_trains(t, pen);
+    put_head(table, pen);
+    put_segments(table, pen);
+    put_boxes(table, pen);
+    put_trains(table, pen);
 }

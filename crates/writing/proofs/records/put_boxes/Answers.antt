@@ -8,9 +8,9 @@ loop-p-init c = written_join_none _ _
 
 pub put-requires : goal.put-requires
 put-requires c =
-    let t = c.args.t.now in
+    let t = c.args.table.now in
     let i = c.loop-p.p-index in
-    omega (arith, join_within (box_bytes t) i t.m (omega arith), ap length (box_bytes_lem t i (omega arith)))
+    omega (arith, join_within (box_bytes t) i t.m (omega arith), ap length (box_bytes_lem t i c.from.result (omega arith)))
 
 pub loop-p-preserved : goal.loop-p-preserved
-loop-p-preserved c = written_join _ _ c.loop-p.invariant (box_bytes_lem _ _ (omega arith)) c.put.ensures
+loop-p-preserved c = written_join _ _ c.loop-p.invariant (box_bytes_lem _ _ c.from.result (omega arith)) c.put.ensures

@@ -5,4 +5,4 @@ use Rattle.writing.specs.Written.{Written}
 use Rattle.writing.proofs.records.put_boxes.Given as goal
 
 abbrev pub invariant-loop-p : goal.invariant-loop-p
-invariant-loop-p l = Written l.initial.pen (join_of l.p-index (box_bytes l.t)) l.pen
+invariant-loop-p l = Written l.initial.pen (join_of l.p-index (box_bytes l.table)) l.pen

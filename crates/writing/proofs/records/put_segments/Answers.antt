@@ -7,16 +7,18 @@ pub loop-s-init : goal.loop-s-init
 loop-s-init c = written_join_none _ _
 
 pub slice_bounds-put-end : goal.slice_bounds-put-end
-slice_bounds-put-end c = rw c.segment_size-size.ensures (segment_size_most c.args.t.now.version)
+slice_bounds-put-end c = omega (arith, segment_size_most c.args.table.now.version)
 
 pub slice_bounds-put-end-in-loop-s : goal.slice_bounds-put-end-in-loop-s
-slice_bounds-put-end-in-loop-s c = simp length-take (rw c.segment_size-size.ensures (omega (arith, segment_size_most c.args.t.now.version)))
+slice_bounds-put-end-in-loop-s c = simp length-take (omega (arith, segment_size_most c.args.table.now.version))
 
 pub put-requires : goal.put-requires
 put-requires c =
-    let t = c.args.t.now in
+    let t = c.args.table.now in
     let i = c.loop-s.s-index in
-    rw c.segment_size-size.ensures (omega (arith, join_within (segment_bytes t) i t.n (omega arith), ap length (segment_bytes_lem t i (omega arith))))
+    let r = segment_bytes_lem t i c.from.result c.from-size.result (omega arith) (omega arith) in
+    omega (arith, join_within (segment_bytes t) i t.n (omega arith), ap length r)
 
 pub loop-s-preserved : goal.loop-s-preserved
-loop-s-preserved c = written_join _ _ c.loop-s.invariant (segment_bytes_lem _ _ (omega arith)) (rw c.segment_size-size.ensures at c.put.ensures)
+loop-s-preserved c =
+    written_join _ _ c.loop-s.invariant (segment_bytes_lem _ _ c.from.result c.from-size.result (omega arith) (omega arith)) c.put.ensures

@@ -5,4 +5,4 @@ use Rattle.writing.specs.Written.{Written}
 use Rattle.writing.proofs.records.put_segments.Given as goal
 
 abbrev pub invariant-loop-s : goal.invariant-loop-s
-invariant-loop-s l = Written l.initial.pen (join_of l.s-index (segment_bytes l.t)) l.pen
+invariant-loop-s l = Written l.initial.pen (join_of l.s-index (segment_bytes l.table)) l.pen

@@ -65,11 +65,11 @@ recorded-held {a} h {i} k (NextAt b) may known =
     eq-eqb _ _
     (⊎_elim
     (λ both.
-    let (e, near) = (and-true_iff (eqb b (around a i).nearEnd) (train_at a i).near).0 both in
-    (fits h k b).reserved _ (rw (eqb-true b (around a i).nearEnd e) (near_recorded near)))
+    let (e, near) = (and-true_iff (eqb b (around a i).near_end) (train_at a i).near).0 both in
+    (fits h k b).reserved _ (rw (eqb-true b (around a i).near_end e) (near_recorded near)))
     (λ both.
-    let (e, far) = (and-true_iff (eqb b (around a i).farEnd) (train_at a i).far).0 both in
-    (fits h k b).reserved _ (rw (eqb-true b (around a i).farEnd e) (far_recorded far)))
+    let (e, far) = (and-true_iff (eqb b (around a i).far_end) (train_at a i).far).0 both in
+    (fits h k b).reserved _ (rw (eqb-true b (around a i).far_end e) (far_recorded far)))
     ((or-true_iff _ _ Iff.rfl Iff.rfl).0 known))
 recorded-held {a} h {i} k (LockAt b) may known =
     let (there, point) = (lock_address_iff (around a i) b).0 may in

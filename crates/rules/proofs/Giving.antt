@@ -90,8 +90,8 @@ module _ {a : Line} (h : Steady a) {i : ℕ} (k : TrainOf a.table i) where
   pub drop-fits : (z : Holding) → Fitting (put_train a i (without_holding (around a i) r z))
   unfolding without_holding
   drop-fits (NextAt b) =
-      lesser_fits _ _ _ (λ e. ((and-true_iff (not (eqb b (around a i).nearEnd)) _).0 e).1)
-      (λ e. ((and-true_iff (not (eqb b (around a i).farEnd)) _).0 e).1) (λ e. e)
+      lesser_fits _ _ _ (λ e. ((and-true_iff (not (eqb b (around a i).near_end)) _).0 e).1)
+      (λ e. ((and-true_iff (not (eqb b (around a i).far_end)) _).0 e).1) (λ e. e)
   drop-fits (LockAt b) = lesser_fits _ _ _ (λ e. e) (λ e. e) (λ e. absurd (false≢true e))
 
   -- Box b frees next, which was reserved for the train there, and which it has not recorded there.
@@ -113,7 +113,7 @@ module _ {a : Line} (h : Steady a) {i : ℕ} (k : TrainOf a.table i) where
     needs_other (near_recorded e) here f =
         false≢true (sym (or-false-left _ _ unrecorded) ∙ and-true _ _ (eq-eqb b _ (sym here)) e)
     needs_other (far_recorded e) here f =
-        false≢true (sym (or-false_right (eqb b (around a i).nearEnd && r.near) _ unrecorded) ∙ and-true _ _ (eq-eqb b _ (sym here)) e)
+        false≢true (sym (or-false_right (eqb b (around a i).near_end && r.near) _ unrecorded) ∙ and-true _ _ (eq-eqb b _ (sym here)) e)
 
     freed-fits : Fitting (put a i r b freeing)
     unfolding set_holder around

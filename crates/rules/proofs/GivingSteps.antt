@@ -50,7 +50,7 @@ sending_gone v r q gives idle = rw gives (message_gone (without_holding v r (hol
 
 -- The ends of a train's next segment are at two boxes.
 ends_differ : {g : Granted} {l : Line} → Invariant g l → {i : ℕ} → TrainOf l.table i → (train_at l i).place < (train_at l i).length
-    → (around l i).nearEnd ≢ (around l i).farEnd
+    → (around l i).near_end ≢ (around l i).far_end
 unfolding around around_on
 ends_differ {l = l} h {i} k next =
     let sound = line-sound h in

@@ -36,28 +36,28 @@ module _ (v : Around) (r : Train) where
   pub recorded_dropped : (h : Holding) → recorded v r h ≡ false → without_holding v (with_holding v r h) h ≡ r
   unfolding recorded with_holding without_holding
   recorded_dropped (NextAt b) n =
-      let near = again_dropped (eqb b v.nearEnd) r.near (or-false-left _ _ n) in
-      let far = again_dropped (eqb b v.farEnd) r.far (or-false_right (eqb b v.nearEnd && r.near) _ n) in
+      let near = again_dropped (eqb b v.near_end) r.near (or-false-left _ _ n) in
+      let far = again_dropped (eqb b v.far_end) r.far (or-false_right (eqb b v.near_end && r.near) _ n) in
       rw (near, far)
   recorded_dropped (LockAt b) n = rw (sym n)
 
   -- What it drops and records again, where it was recorded before and the ends of next are at two boxes.
-  pub dropped_recorded : (h : Holding) → v.nearEnd ≢ v.farEnd → recorded v r h ≡ true → with_holding v (without_holding v r h) h ≡ r
+  pub dropped_recorded : (h : Holding) → v.near_end ≢ v.far_end → recorded v r h ≡ true → with_holding v (without_holding v r h) h ≡ r
   unfolding recorded with_holding without_holding
   dropped_recorded (NextAt b) differ e =
-      let one : (eqb b v.nearEnd && eqb b v.farEnd) ≡ false = simp facts (λ near far. differ (sym near ∙ far)) in
-      let (near, far) = again_recorded (eqb b v.nearEnd) (eqb b v.farEnd) r.near r.far one e in
+      let one : (eqb b v.near_end && eqb b v.far_end) ≡ false = simp facts (λ near far. differ (sym near ∙ far)) in
+      let (near, far) = again_recorded (eqb b v.near_end) (eqb b v.far_end) r.near r.far one e in
       rw (near, far)
   dropped_recorded (LockAt b) differ e = rw (sym e)
 
   -- What it has recorded or dropped.
   pub recorded_now : (h : Holding) → addressed v h ≡ true → recorded v (with_holding v r h) h ≡ true
   unfolding recorded with_holding addressed
-  recorded_now (NextAt b) e = one_recorded (eqb b v.nearEnd) (eqb b v.farEnd) r.near r.far e
+  recorded_now (NextAt b) e = one_recorded (eqb b v.near_end) (eqb b v.far_end) r.near r.far e
   recorded_now (LockAt b) e = refl
 
   pub dropped_now : (h : Holding) → recorded v (without_holding v r h) h ≡ false
   unfolding recorded without_holding
   dropped_now (NextAt b) =
-      or-false _ _ (just_dropped (eqb b v.nearEnd) r.near) (just_dropped (eqb b v.farEnd) r.far)
+      or-false _ _ (just_dropped (eqb b v.near_end) r.near) (just_dropped (eqb b v.far_end) r.far)
   dropped_now (LockAt b) = refl

@@ -150,7 +150,7 @@ heard_message v r q c = rw heard-counted (each-counted (λ x. x.message ≡ Idle
 
 -- A train clears its tail before or after its message is taken away.
 counted-cleared
-    : (v w : Around) → v.nearEnd ≡ w.nearEnd → v.farEnd ≡ w.farEnd → (r : Train) (q : Request) (b : Bool)
+    : (v w : Around) → v.near_end ≡ w.near_end → v.far_end ≡ w.far_end → (r : Train) (q : Request) (b : Bool)
     → counted v (cleared r) q b ≡ cleared (counted w r q b)
 unfolding counted with_message with_holding cleared
 counted-cleared v w near far r q b = by (holding q) b
@@ -189,7 +189,7 @@ module _ (n : Counts) (v : Around) (r : Train) where
       by (Lost q) = counted_alike v r q _
 
   -- It may clear its tail before or after, seen from the same number and with next at the same ends.
-  pub clears_quiet : (w : Around) → w.number ≡ v.number → w.nearEnd ≡ v.nearEnd → w.farEnd ≡ v.farEnd
+  pub clears_quiet : (w : Around) → w.number ≡ v.number → w.near_end ≡ v.near_end → w.far_end ≡ v.far_end
       → quiet_train n w (cleared r) ≡ cleared (quiet_train n v r)
   unfolding quiet_train quiet_by cleared
   clears_quiet w number near far = by r.message

@@ -46,7 +46,7 @@ all_recorded v r h e may =
 
     by : (h : Holding) → r.near ≡ true → r.far ≡ true → (v.point ≡ true → r.lock ≡ true) → addressed v h ≡ true
         → recorded v r h ≡ true
-    by (NextAt b) near far lock may = either (eqb b v.nearEnd) (eqb b v.farEnd) r.near r.far may near far
+    by (NextAt b) near far lock may = either (eqb b v.near_end) (eqb b v.far_end) r.near r.far may near far
     by (LockAt b) near far lock may = lock ((lock_address_iff v b).0 may).1
 
 -- So a train enters only where it has no message.

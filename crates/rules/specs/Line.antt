@@ -222,8 +222,8 @@ around_on track way point routes i r =
       against = runs_against d (way next);
       ahead = far_box track d front;
       point = point (far_box track d front);
-      nearEnd = near_box track d next;
-      farEnd = far_box track d next;
+      near_end = near_box track d next;
+      far_end = far_box track d next;
       passed = far_box track d tail;
     }
 

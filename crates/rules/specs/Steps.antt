@@ -83,12 +83,12 @@ is_open (Lost q) = true
 
 -- A request about the holding may be made at its box. A reservation: at an end of next. A lock: at the box ahead, a point.
 unfoldable pub addressed : Around → Holding → Bool
-addressed v (NextAt b) = eqb b v.nearEnd || eqb b v.farEnd
+addressed v (NextAt b) = eqb b v.near_end || eqb b v.far_end
 addressed v (LockAt b) = eqb b v.ahead && v.point
 
 -- The train has recorded the holding.
 unfoldable pub recorded : Around → Train → Holding → Bool
-recorded v r (NextAt b) = (eqb b v.nearEnd && r.near) || (eqb b v.farEnd && r.far)
+recorded v r (NextAt b) = (eqb b v.near_end && r.near) || (eqb b v.far_end && r.far)
 recorded v r (LockAt b) = r.lock
 
 -- There is no next segment.
@@ -186,12 +186,12 @@ granted v p x q =
 
 -- The train after it has recorded the holding, and after it has dropped the record.
 unfoldable pub with_holding : Around → Train → Holding → Train
-with_holding v r (NextAt b) = with_records r (eqb b v.nearEnd || r.near) (eqb b v.farEnd || r.far) r.lock
+with_holding v r (NextAt b) = with_records r (eqb b v.near_end || r.near) (eqb b v.far_end || r.far) r.lock
 with_holding v r (LockAt b) = with_records r r.near r.far true
 
 unfoldable pub without_holding : Around → Train → Holding → Train
 without_holding v r (NextAt b) =
-    with_records r (not (eqb b v.nearEnd) && r.near) (not (eqb b v.farEnd) && r.far) r.lock
+    with_records r (not (eqb b v.near_end) && r.near) (not (eqb b v.far_end) && r.far) r.lock
 without_holding v r (LockAt b) = with_records r r.near r.far false
 
 -- The train after it has entered next: nothing is recorded of the segment that is next now.

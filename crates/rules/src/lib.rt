@@ -1,6 +1,8 @@
 // The records of a line: the table that the railway writes, and the switch boxes and trains that run by it.
 // What they mean and every rule over them is in specs/, which begins with specs/Lib.antt. There is no code here but the numbers of errors.
 // Segments, boxes and trains are numbered from 1; record i of an array is the one numbered i + 1.
+// Kinds, ways, positions, directions, holders and the codes of answers are bytes here, and no enums: a record may hold any of them, and
+// `table_refusal` and `record_fault` (codes 6, 7, 10 and 27) say of any record which a line can have. 0 is no box, no segment, nobody.
 #![tactic(auto)]
 
 mod errors;
@@ -27,7 +29,8 @@ pub struct BoxPlan {
     pub position: u8,
 }
 
-// Which end of a box's stem segment is at the box: neither, its A end, or its B end. The first is what is read where there is no box.
+// Which end of a box's stem segment is at the box: neither, its A end, or its B end. The first is what is read where there is no box. It is
+// no Option of an end: `is_side` and `stem_side` (specs/StemSide.antt) name its three cases.
 #[derive(Clone, Copy, Default)]
 pub enum StemSide {
     #[default]
@@ -134,12 +137,13 @@ pub struct Around {
     pub against: bool,
     pub ahead: u8,
     pub point: bool,
-    pub nearEnd: u8,
-    pub farEnd: u8,
+    pub near_end: u8,
+    pub far_end: u8,
     pub passed: u8,
 }
 
-// What a call on a line ends in: a code, and the line after it.
+// What a call on a line ends in: a code, and the line after it. It is no Result: a box's no is a code, and changes the line
+// (`checked_step`).
 #[derive(Clone, Copy)]
 pub struct Outcome {
     pub code: u8,

@@ -28,8 +28,8 @@ no_around =
       against = false;
       ahead = 0;
       point = false;
-      nearEnd = 0;
-      farEnd = 0;
+      near_end = 0;
+      far_end = 0;
       passed = 0;
     }
 

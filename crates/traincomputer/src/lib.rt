@@ -55,7 +55,7 @@ fn addressed(v: Around, h: Holding) -> bool
     ensures { result ≡ addressed v h }
 {
     match h {
-        Holding::NextAt(b) => b == v.nearEnd || b == v.farEnd,
+        Holding::NextAt(b) => b == v.near_end || b == v.far_end,
         Holding::LockAt(b) => b == v.ahead && v.point,
     }
 }
@@ -158,8 +158,8 @@ impl Computer {
         ensures { result ≡ recorded self.around self.train h }
     {
         match h {
-            Holding::NextAt(b) => b == self.around.nearEnd && self.train.near
-                || b == self.around.farEnd && self.train.far,
+            Holding::NextAt(b) => b == self.around.near_end && self.train.near
+                || b == self.around.far_end && self.train.far,
             Holding::LockAt(_) => self.train.lock,
         }
     }
@@ -171,8 +171,8 @@ impl Computer {
     {
         match h {
             Holding::NextAt(b) => Train {
-                near: b == self.around.nearEnd || self.train.near,
-                far: b == self.around.farEnd || self.train.far,
+                near: b == self.around.near_end || self.train.near,
+                far: b == self.around.far_end || self.train.far,
                 ..self.train
             },
             Holding::LockAt(_) => Train {
@@ -189,8 +189,8 @@ impl Computer {
     {
         match h {
             Holding::NextAt(b) => Train {
-                near: b != self.around.nearEnd && self.train.near,
-                far: b != self.around.farEnd && self.train.far,
+                near: b != self.around.near_end && self.train.near,
+                far: b != self.around.far_end && self.train.far,
                 ..self.train
             },
             Holding::LockAt(_) => Train {

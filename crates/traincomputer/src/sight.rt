@@ -27,8 +27,8 @@ pub fn around(number: u8, r: Train, routes: &[u8; 1024], columns: &Columns) -> A
         against: network::runs_against(d, columns.ways[next as usize]),
         ahead,
         point: columns.kinds[ahead as usize] == 2,
-        nearEnd: columns.near(d, next),
-        farEnd: columns.far(d, next),
+        near_end: columns.near(d, next),
+        far_end: columns.far(d, next),
         passed: columns.far(d, tail),
     }
 }

@@ -2,7 +2,7 @@
 use Rattle.std.proofs.Common.{ℕ, ◌≤◌, ◌<◌, ◌≡◌, ◌≢◌, refl, sym, ◌∙◌, ap, true, false, not, List, [], ◌∷◌, ◌++◌, eqb, length, arith}
 use borrow.Author.Tests.{le-ltb}
 use Rattle.rules.specs.Ends.{Refusal}
-use Rattle.rules.specs.Rows.{◌if◌, first}
+use Rattle.rules.specs.Rows.{Row, ◌if◌, first}
 use Rattle.rules.specs.Network.{head_rows, limits_fault}
 use Rattle.rules.specs.Placing.{without_place, table_code, parts_code, tells_place, parts_refusal, table_refusal}
 use Rattle.rules.specs.File.{marked, version_in, segment_count, box_count, train_count, file_length, file_code, file_refusal, decode, early_rows}
@@ -13,9 +13,12 @@ use Rattle.rules.proofs.Files.{held-read}
 use Rattle.rules.proofs.Tests.{tests, facts, EachCode, outside-false_iff, not_of_true, not_of_false, first-none, first_zero_iff, first_hit, first_skip, first-before}
 use Rattle.tablefile.specs.Whole.{early_code, Whole}
 
--- The code of a file's head.
+-- The head's rows of a file, and their code.
+abbrev head_of : List ℕ → List Row
+head_of bytes = head_rows (version_in bytes) (segment_count bytes) (box_count bytes) (train_count bytes)
+
 abbrev pub head_code : List ℕ → ℕ
-head_code bytes = first (head_rows (version_in bytes) (segment_count bytes) (box_count bytes) (train_count bytes))
+head_code bytes = first (head_of bytes)
 
 module _ (bytes : List ℕ) where
   -- Codes 1 to 5, each by the tests before it.
@@ -30,7 +33,7 @@ module _ (bytes : List ℕ) where
 
     module _ (b : marked bytes ≡ true) where
       past_mark : {c : ℕ} →
-          c ≡ first (head_rows (version_in bytes) (segment_count bytes) (box_count bytes) (train_count bytes) ++ (5 if not (eqb (length bytes) (file_length bytes)) ∷ [])) →
+          c ≡ first (head_of bytes ++ (5 if not (eqb (length bytes) (file_length bytes)) ∷ [])) →
           without_place c ≡ without_place (early_code bytes)
       unfolding early_code early_rows
       past_mark e = ap without_place (first_skip _ _ _ (le-ltb _ _ long) (first_skip _ _ _ (not_of_true _ b) e))

@@ -22,10 +22,12 @@ module _ {A : Type 0} where
   fill_list n k d l v e h =
       let long : length (l ++ v) ≤ n = simp length-append (omega arith) in
       let left : n - length l - k ≡ n - length (l ++ v) = simp length-append (omega arith) in
-      rw (filled_by n d l (omega arith), filled_by n d (l ++ v) long, take-append_seam, drop-append_seam, drop-replicate, left, append_assoc)
+      let room : length l ≤ n = omega arith in
+      rw (filled_by n d l room, filled_by n d (l ++ v) long, take-append_seam, drop-append_seam, drop-replicate, left, append_assoc)
 
   -- Filling up twice: the first filling adds nothing.
-  drop_pad : (n q r : ℕ) (d : A) (l : List A) → n ≤ length l + r → take n ((l ++ replicate q d) ++ replicate r d) ≡ take n (l ++ replicate r d)
+  drop_pad : (n q r : ℕ) (d : A) (l : List A) →
+      n ≤ length l + r → take n ((l ++ replicate q d) ++ replicate r d) ≡ take n (l ++ replicate r d)
   drop_pad zero q r d l h = refl
   drop_pad (suc n) q r d [] h =
       rw replicate-append-replicate

@@ -87,7 +87,9 @@ module _ (bytes : List ℕ) where
     train_room i at h e = rw e (omega (arith, trains-more i, whole_rest (i + 1) (omega arith)))
 
   -- The segment records from a place on: they are within the file, and the file's.
-  module _ (from : ℕ) (a : AtSegments bytes from) (size version i : ℕ) (e : version ≡ version_in bytes) (f : size ≡ segment_size version) where
+  module _
+      (from : ℕ) (a : AtSegments bytes from)
+      (size version i : ℕ) (e : version ≡ version_in bytes) (f : size ≡ segment_size version) where
     pub segment_room : i < segment_count bytes → from + size * i + segment_size version ≤ length bytes
     segment_room h =
         let k : i + 1 ≤ segment_count bytes = omega arith in
@@ -171,9 +173,9 @@ module _ (bytes : List ℕ) where
   unfolding routes_up_to
   routes_more w i at k room count l copied h e r c f g is =
       let fits : k ≤ length (drop (at + 2) bytes) = simp length-drop (omega (arith, c, train_room w i at h e)) in
+      let few : i < 16 = omega (arith, w.trains) in
       rw f
-      (join_copy (route_in bytes) 0 i k (get_or bytes (at + 1) 0) l (drop (at + 2) bytes) copied (omega (arith, w.trains)) r (route_in_lem i at e) c fits
-      (rw g at is))
+      (join_copy (route_in bytes) 0 i k (get_or bytes (at + 1) 0) l _ copied few r (route_in_lem i at e) c fits (rw g at is))
 
   -- The table record, by the numbers of the head and the arrays.
   pub decode_of : (version n m k : ℕ) (s : List Segment) (b : List BoxPlan) (t : List TrainPlan) (r : List ℕ) →
@@ -189,8 +191,12 @@ module _ (bytes : List ℕ) where
   unfolding decode segments_of boxes_of trains_of routes_of routes_up_to
   decode_of version n m k s b t r ev en em ek es eb et er = rw (ev, en, em, ek, es, eb, et, er)
 
--- What the loops over a file's records go by.
-pub ruleset records = (whole_long, train_head, train_room, segment_room, segment_here, box_room, box_here, train_here, trains_next, routes_none, routes_more, fill_none, fill_more)
+-- What the loops over a file's records go by: what is within the file, and what is read there.
+pub ruleset rooms = (whole_long, train_head, train_room, segment_room, box_room)
 
--- What the readers go by.
-pub ruleset places = (whole_long, segments_place, boxes_place, trains_place, trains_near, route_place, route_at, route_room, route_is, decode_of)
+pub ruleset records = (rooms, segment_here, box_here, train_here, trains_next, routes_none, routes_more, fill_none, fill_more)
+
+-- What the readers go by: where the records begin, the table record of what is read, and the route of a train.
+pub ruleset of_routes = (route_place, route_at, route_room, route_is)
+
+pub ruleset places = (whole_long, segments_place, boxes_place, trains_place, trains_near, decode_of, of_routes)

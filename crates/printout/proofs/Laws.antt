@@ -1,142 +1,109 @@
--- Laws of numbers in decimal, and of words and lines stored one after the other.
-use Prim.Native.Nat.{ℕ, zero, suc, ◌+◌, ◌-◌, ◌*◌, ◌/◌, ◌%◌, ◌≤◌, ◌<◌}
-use mathlib.Core.Path.{◌≡◌, refl, sym, ◌∙◌, ap}
-use mathlib.Core.Bool.{Bool, true, false, cond}
-use mathlib.Core.List.{List, [], ◌∷◌, ◌++◌, append_assoc, append-nil}
+-- Laws of numbers in decimal, and of lines written one after the other.
+use Rattle.std.proofs.Common.{ℕ, suc, ◌+◌, ◌-◌, ◌*◌, ◌/◌, ◌^◌, ◌≤◌, ◌<◌, ◌≡◌, ◌⊎◌, inl, inr, refl, sym, Bool, true, false, cond, leb, List, [], ◌∷◌, ◌++◌, append_assoc, append-nil, length, length-append, get_or, get_or-take, take, take_all, map, flat_map, sum_by, arith, lit≤, lt-ltb, le-ltb}
 use native.Mathlib.Decide.{dec_lt}
-use native.Mathlib.Numerals.{add-one}
-use native.Mathlib.Omega.{arith}
-use borrow.Author.Tests.{lt-ltb, le-ltb}
-use lib.Dec.{leb}
-use lib.ListN.{length, get_or, set, take, length-append}
-use lib.Seq.{take-suc}
+use Rattle.std.specs.Int.{div_ceil}
+use Rattle.std.specs.Fmt.{decimal as printed}
+use Rattle.std.proofs.lemmas.Fmt.{decimal_digit, decimal_step, length-decimal-le}
+use Rattle.std.proofs.lemmas.List.{flat_map_more, take_more}
+use Rattle.std.proofs.lemmas.List.Folds.{length-flat_map-take}
+use Rattle.std.proofs.lemmas.List.Concat.{length-flat_map}
 use Rattle.rules.specs.declared.Line.{Line}
-use Rattle.rules.specs.Ends.{Refusal}
+use Rattle.rules.specs.declared.errors.RoutePlace.{RoutePlace}
+use Rattle.rules.specs.declared.errors.FileError.{FileError}
+use Rattle.rules.specs.declared.errors.FileError.TheVariants.{TooShort, NoMark, UnknownVersion, BadCounts, WrongLength, BadSegment, BadBox, BadListing, Loop, BadRouteShape, NoSuchSegment, SharedStart, NoSuchTrain, NoRoom, NotFollowing, StartAgainstWay}
+use Rattle.rules.specs.Errors.{refusal_of}
+use Rattle.rules.specs.Placing.{tells_place}
 use Rattle.rules.specs.Rows.{join_of}
 use Rattle.rules.specs.Track.{route_at}
-use Rattle.rules.specs.Line.{no_box, no_train, box_at, train_at, around_on, around}
-use Rattle.rules.specs.Placing.{tells_place}
 use Rattle.rules.specs.Run.{step_count}
+use Rattle.rules.specs.Line.{no_box, no_train, box_at, train_at, around_on, around}
 use Rattle.rules.specs.Printout.{bytes_of, decimal_in, decimal, text_line, step_line, step_line_of, tail_of, train_line, bit, box_line, line_text, file_line}
 use Rattle.rules.proofs.Rows.{nth_at}
+use Rattle.writing.specs.declared.pen.Pen.{Pen}
 use Rattle.writing.specs.Written.{Written}
-use Rattle.writing.proofs.Laws.{written-append, written_join_none, written_join}
+use Rattle.writing.proofs.Laws.{written_append, written_join_none, written_join}
 use Rattle.printout.specs.Short.{Short}
 
--- A number that has at most so many digits is the same with room for one digit more.
-one_digit : (x : ℕ) → x < 10 → decimal_in 1 x ≡ decimal_in 2 x
+-- A number in decimal is what the library prints of it.
+one_digit : (x : ℕ) → x < 10 → decimal_in 1 x ≡ printed x
 unfolding decimal_in
-one_digit x h = rw (lt-ltb x 10 h)
+one_digit x h = rw (lt-ltb x 10 h) (sym (decimal_digit x h))
 
-more_digits : (digits b : ℕ) → ((x : ℕ) → x < b → decimal_in digits x ≡ decimal_in (suc digits) x)
-    → (x : ℕ) → x < 10 * b → decimal_in (suc digits) x ≡ decimal_in (suc (suc digits)) x
+more_digits : (digits b : ℕ) → 10 * b ≤ 2 ^ 64 → ((x : ℕ) → x < b → decimal_in digits x ≡ printed x) → (x : ℕ) → x < 10 * b → decimal_in (suc digits) x ≡ printed x
 unfolding decimal_in
-more_digits digits b same x h =
+more_digits digits b room same x h =
     elim (dec_lt x 10) [
-      | yes l ↦ rw (lt-ltb x 10 l)
-      | no l ↦ rw (le-ltb x 10 (omega arith), same (x / 10) (omega arith))
+      | yes l ↦ rw (lt-ltb x 10 l) (sym (decimal_digit x l))
+      | no l ↦ rw (le-ltb x 10 (omega arith), same (x / 10) (omega arith)) (sym (decimal_step x (omega arith) (omega arith)))
     ]
 
-four_digits : (x : ℕ) → x < 10000 → decimal_in 4 x ≡ decimal_in 5 x
-four_digits = more_digits 3 1000 (more_digits 2 100 (more_digits 1 10 one_digit))
-
--- A number below 10 is its digit; any other is the number without its last digit, and that digit.
-pub decimal_digit : (x : ℕ) → x < 10 → decimal x ≡ (48 + x) ∷ []
-unfolding decimal decimal_in
-decimal_digit x h = rw (lt-ltb x 10 h)
-
-digits_more : (digits x : ℕ) → 10 ≤ x → decimal_in (suc digits) x ≡ decimal_in digits (x / 10) ++ ((48 + x % 10) ∷ [])
-unfolding decimal_in
-digits_more digits x h = rw (le-ltb x 10 h)
-
-pub decimal-more : (x : ℕ) → 10 ≤ x → x < 65536 → decimal x ≡ decimal (x / 10) ++ ((48 + x % 10) ∷ [])
+pub printed_decimal : (x : ℕ) → x < 65536 → printed x ≡ decimal x
 unfolding decimal
-decimal-more x h k =
-    digits_more 4 x h ∙ ap (λ (w : List ℕ). w ++ ((48 + x % 10) ∷ [])) (four_digits (x / 10) (omega arith))
+printed_decimal x h =
+    let two = more_digits 1 10 (lit≤ tt) one_digit in
+    let three = more_digits 2 100 (lit≤ tt) two in
+    let four = more_digits 3 1000 (lit≤ tt) three in
+    sym (more_digits 4 10000 (lit≤ tt) four x (omega arith))
 
-pub more-fits : (x : ℕ) → 10 ≤ x → x < 65536 → length (decimal x) ≡ length (decimal (x / 10)) + 1
-more-fits x h k = ap length (decimal-more x h k) ∙ length-append (decimal (x / 10)) ((48 + x % 10) ∷ [])
-
--- How many digits a number has: at most 5, and a byte at most 3.
-digits_length : (digits x : ℕ) → length (decimal_in digits x) ≤ digits
-unfolding decimal_in
-digits_length zero x = omega arith
-digits_length (suc digits) x =
-    elim (dec_lt x 10) [
-      | yes l ↦ rw (lt-ltb x 10 l) (omega arith)
-      | no l ↦ rw (le-ltb x 10 (omega arith), length-append) (omega (arith, digits_length digits (x / 10)))
-    ]
-
-pub count_length : (x : ℕ) → length (decimal x) ≤ 5
-unfolding decimal
-count_length x = digits_length 5 x
-
-digit_length : (x : ℕ) → x < 10 → length (decimal x) ≤ 1
-digit_length x h = rw (decimal_digit x h) (omega arith)
-
-more-length : (b n : ℕ) → ((x : ℕ) → x < b → length (decimal x) ≤ n) → 10 * b ≤ 65536 → (x : ℕ) → x < 10 * b → length (decimal x) ≤ n + 1
-more-length b n short room x h =
-    elim (dec_lt x 10) [
-      | yes l ↦ omega (arith, ap length (decimal_digit x l))
-      | no l ↦ rw (decimal-more x (omega arith) (omega arith), length-append) (omega (arith, short (x / 10) (omega arith)))
-    ]
+-- Its length.
+short_length : (n x : ℕ) → 0 < n → x < 10 ^ n → x < 65536 → length (decimal x) ≤ n
+short_length n x h k l = rw (← printed_decimal x l) (length-decimal-le n x h k (omega arith))
 
 pub byte_length : (x : ℕ) → x < 256 → length (decimal x) ≤ 3
-byte_length x h = more-length 100 2 (more-length 10 1 digit_length (omega arith)) (omega arith) x (omega arith)
+byte_length x h = short_length 3 x (omega arith) (omega arith) (omega arith)
 
--- One byte stored.
-pub written_byte : (d : List ℕ) (at x : ℕ) → Written d at (x ∷ []) (at + 1) (set d at x)
-written_byte d at x = record { next = refl; bytes = refl }
-
--- A word, one byte more.
-pub written-take-none : (w d : List ℕ) (at : ℕ) → Written d at (take 0 w) at d
-written-take-none w d at = record { next = omega arith; bytes = refl }
-
-pub written-take : (w : List ℕ) (i : ℕ) {d o : List ℕ} {at j : ℕ} → i < length w → Written d at (take i w) j o → Written d at (take (i + 1) w) (j + 1) (set o j (get_or w i 0))
-written-take w i {d} {o} {at} {j} h a = rw (add-one i, take-suc w i 0 h) (written-append a (written_byte o j (get_or w i 0)))
-
--- Parts that are stored one after the other, at most so many bytes each.
-short-append : {n m : ℕ} {d v w o p : List ℕ} {at j k : ℕ} → Short n d at v j o → Short m o j w k p → Short (n + m) d at (v ++ w) k p
-short-append a b = record { written = written-append a.written b.written; short = omega arith }
-
--- The words of a line: a word with its space before the rest of the line, and the last one with its newline.
-short_word : {n m : ℕ} {d o p : List ℕ} {at j k : ℕ} (w x : List ℕ) (rest : List (List ℕ)) → Short n d at (w ++ (32 ∷ [])) j o → Short m o j (text_line (x ∷ rest)) k p → Short (n + m) d at (text_line (w ∷ x ∷ rest)) k p
+-- A word, and numbers with a space before each.
+pub line_words : (w xs : List ℕ) → text_line (w ∷ map decimal xs) ≡ w ++ flat_map (λ x. 32 ∷ decimal x) xs ++ (10 ∷ [])
 unfolding text_line
-short_word w x rest a b = rw append_assoc at (short-append a b)
+line_words w [] = rw append-nil
+line_words w (x ∷ xs) = rw (line_words (decimal x) xs) (simp append_assoc)
 
-short-last : {n : ℕ} {d o : List ℕ} {at j : ℕ} (w : List ℕ) → Short n d at (w ++ (10 ∷ [])) j o → Short n d at (text_line (w ∷ [])) j o
-unfolding text_line
-short-last w a = a
+pub line_length : (w xs : List ℕ) → length (text_line (w ∷ map decimal xs)) ≡ length w + length (flat_map (λ x. 32 ∷ decimal x) xs) + 1
+line_length w xs = rw line_words (simp length-append)
+
+-- The first i numbers after the word are written; one more, and the newline after all of them.
+pub number_written : (w xs : List ℕ) (i : ℕ) {p q r : Pen} → i < length xs → Written p (w ++ flat_map (λ x. 32 ∷ decimal x) (take i xs)) q → Written q (32 ∷ decimal (get_or xs i 0)) r → Written p (w ++ flat_map (λ x. 32 ∷ decimal x) (take (i + 1) xs)) r
+number_written w xs i h a b = rw (take_more xs i 0 h, ← flat_map_more) (written_append a b)
+
+pub line_written : (w xs : List ℕ) (i : ℕ) {p q r : Pen} → length xs ≤ i → Written p (w ++ flat_map (λ x. 32 ∷ decimal x) (take i xs)) q → Written q (10 ∷ []) r → Written p (text_line (w ∷ map decimal xs)) r
+line_written w xs i h a b = rw line_words (written_append (rw (take_all i xs h) at a) b)
+
+-- What is written so far, and one number more, is shorter than the line.
+pub number_within : (w xs : List ℕ) (i : ℕ) → i < length xs → length (w ++ flat_map (λ x. 32 ∷ decimal x) (take i xs)) + length (decimal (get_or xs i 0)) + 1 < length (text_line (w ∷ map decimal xs))
+number_within w xs i h = rw (line_length, length-append) (omega (arith, length-flat_map-take (λ x. 32 ∷ decimal x) xs i 0 h))
+
+pub newline_within : (w xs : List ℕ) (i : ℕ) → length xs ≤ i → length (w ++ flat_map (λ x. 32 ∷ decimal x) (take i xs)) + 1 ≡ length (text_line (w ∷ map decimal xs))
+newline_within w xs i h = rw (line_length, length-append, take_all i xs h)
+
+-- A line of a word of at most 5 bytes and at most three bytes as numbers has at most 18 bytes, and so has that of a box.
+line_size : (w xs : List ℕ) → length (text_line (w ∷ map decimal xs)) ≡ length w + sum_by (λ x. length (32 ∷ decimal x)) xs + 1
+line_size w xs = rw (line_length, length-flat_map)
+
+pub three_fit : (w : List ℕ) (a b c : ℕ) → length w ≤ 5 → a < 256 → b < 256 → c < 256 → length (text_line (w ∷ decimal a ∷ decimal b ∷ decimal c ∷ [])) ≤ 18
+three_fit w a b c h x y z =
+    omega (arith, line_size w (a ∷ b ∷ c ∷ []), byte_length a x, byte_length b y, byte_length c z)
+
+pub one_fits : (w : List ℕ) (a : ℕ) → length w ≤ 5 → a < 256 → length (text_line (w ∷ decimal a ∷ [])) ≤ 18
+one_fits w a h x = omega (arith, line_size w (a ∷ []), byte_length a x)
+
+pub word_fits : (w : List ℕ) → length w ≤ 5 → length (text_line (w ∷ [])) ≤ 18
+word_fits w h = omega (arith, line_size w [])
+
+pub box_fits : (w : List ℕ) (a b c d : ℕ) → length w ≤ 3 → a ≤ 96 → b ≤ 1 → c < 256 → d < 256 → length (text_line (w ∷ decimal a ∷ decimal b ∷ decimal c ∷ decimal d ∷ [])) ≤ 18
+box_fits w a b c d h x y u v =
+    omega (arith, line_size w (a ∷ b ∷ c ∷ d ∷ []), short_length 2 a (omega arith) (omega arith) (omega arith), short_length 1 b (omega arith) (omega arith) (omega arith), byte_length c u, byte_length d v)
+
+pub short_more : {n m : ℕ} {w : List ℕ} {p q : Pen} → n ≤ m → Short n p w q → Short m p w q
+short_more h a = record { written = a.written; short = omega arith }
 
 -- Lines, one more at a time.
-pub short_none : (f : ℕ → List ℕ) (d : List ℕ) (at : ℕ) → Short (18 * 0) d at (join_of 0 f) at d
-short_none f d at = record { written = written_join_none f d at; short = omega arith }
+pub short_none : (f : ℕ → List ℕ) (p : Pen) → Short (18 * 0) p (join_of 0 f) p
+short_none f p = record { written = written_join_none f p; short = omega arith }
 
-pub short_join : (f : ℕ → List ℕ) (i : ℕ) {d o p : List ℕ} {at j k : ℕ} → Short (18 * i) d at (join_of i f) j o → Short 18 o j (f (i + 1)) k p → Short (18 * (i + 1)) d at (join_of (i + 1) f) k p
-short_join f i a b = record { written = written_join f i a.written b.written; short = omega arith }
+pub short_join : (f : ℕ → List ℕ) (i : ℕ) {w : List ℕ} {p q r : Pen} → Short (18 * i) p (join_of i f) q → f (i + 1) ≡ w → Short 18 q w r → Short (18 * (i + 1)) p (join_of (i + 1) f) r
+short_join f i a e b = record { written = written_join f i a.written e b.written; short = omega arith }
 
--- A number and the byte after it, in so much room.
-pub short_number : (n x after : ℕ) {d o : List ℕ} {at end : ℕ} → length (decimal x) ≤ n → Written d at (decimal x) end o → Short (n + 1) d at (decimal x ++ (after ∷ [])) (end + 1) (set o end after)
-short_number n x after {d} {o} {at} {end} h a =
-    record { written = written-append a (written_byte o end after); short = omega (arith, a.next) }
-
--- A bit as a number.
-bit_digit : (x : Bool) → decimal (bit x) ≡ (48 + bit x) ∷ []
-unfolding bit
-bit_digit true = decimal_digit 1 (omega arith)
-bit_digit false = decimal_digit 0 (omega arith)
-
-pub short-bit : (x : Bool) (d : List ℕ) (at : ℕ) → Short 2 d at (decimal (bit x) ++ (32 ∷ [])) (at + 2) (set (set d at (48 + bit x)) (at + 1) 32)
-short-bit x d at = rw bit_digit (record { written = record { next = refl; bytes = rw add-one }; short = omega arith })
-
--- A word that is stored whole.
-short-whole : {d w o : List ℕ} {at j : ℕ} → Written d at w j o → Short (length w) d at w j o
-short-whole a = record { written = a; short = omega (arith, a.next) }
-
-short-more : {n m : ℕ} {d w o : List ℕ} {at j : ℕ} → n ≤ m → Short n d at w j o → Short m d at w j o
-short-more h a = record { written = a.written; short = omega arith }
-
--- The line of step i + 1, word by word.
+-- The line of step i + 1, train i + 1 and box i + 1.
 pub step_words : (bytes answers : List ℕ) (i : ℕ) → step_line_of bytes answers (i + 1) ≡ step_line (i + 1) (get_or bytes (3 * i) 0) (get_or bytes (3 * i + 1) 0) (get_or answers i 0)
 unfolding step_line_of
 step_words bytes answers i =
@@ -144,77 +111,60 @@ step_words bytes answers i =
     let train : 3 * (i + 1) - 1 ≡ 3 * i + 1 + 1 = omega arith in
     rw (kind, train, nth_at bytes (3 * i), nth_at bytes (3 * i + 1), nth_at answers i)
 
-four_words : (s t u v : List ℕ) {n : ℕ} {d o p q r : List ℕ} {at a b c e : ℕ} → Short n d at (s ++ (32 ∷ [])) a o → Short 4 o a (t ++ (32 ∷ [])) b p → Short 4 p b (u ++ (32 ∷ [])) c q → Short 4 q c (v ++ (10 ∷ [])) e r → Short (n + 12) d at (text_line (s ∷ t ∷ u ∷ v ∷ [])) e r
-four_words s t u v w x y z = short_word s t (u ∷ v ∷ []) w (short_word t u (v ∷ []) x (short_word u v [] y (short-last v z)))
-
-pub short-step : (bytes answers : List ℕ) (i : ℕ) {kind train code : ℕ} {d o p q r : List ℕ} {at a b c e : ℕ}
-    → kind ≡ get_or bytes (3 * i) 0 → train ≡ get_or bytes (3 * i + 1) 0 → code ≡ get_or answers i 0
-    → Short 6 d at (decimal (i + 1) ++ (32 ∷ [])) a o → Short 4 o a (decimal kind ++ (32 ∷ [])) b p
-    → Short 4 p b (decimal train ++ (32 ∷ [])) c q → Short 4 q c (decimal code ++ (10 ∷ [])) e r
-    → Short 18 d at (step_line_of bytes answers (i + 1)) e r
-unfolding step_line
-short-step bytes answers i {kind} {train} {code} k t s w x y z =
-    rw (step_words, sym k, sym t, sym s) (four_words (decimal (i + 1)) (decimal kind) (decimal train) (decimal code) w x y z)
-
--- A train's line and a box's line, word by word.
-pub short-train : (i : ℕ) {front tail f t : ℕ} {d o p q r : List ℕ} {at a b c e : ℕ}
-    → f ≡ front → t ≡ tail
-    → Written d at (bytes_of "train ") a o → Short 4 o a (decimal i ++ (32 ∷ [])) b p
-    → Short 4 p b (decimal f ++ (32 ∷ [])) c q → Short 4 q c (decimal t ++ (10 ∷ [])) e r
-    → Short 18 d at (text_line (bytes_of "train" ∷ decimal i ∷ decimal front ∷ decimal tail ∷ [])) e r
-short-train i {front} {tail} {f} {t} g h w x y z =
-    rw (sym g, sym h) (four_words (bytes_of "train") (decimal i) (decimal f) (decimal t) (short-whole w) x y z)
-
-pub short-box : (i sensor position lock : ℕ) {d o p q r u : List ℕ} {at a b c e s : ℕ}
-    → Written d at (bytes_of "box ") a o → Short 4 o a (decimal i ++ (32 ∷ [])) b p
-    → Short 2 p b (decimal sensor ++ (32 ∷ [])) c q → Short 4 q c (decimal position ++ (32 ∷ [])) e r → Short 4 r e (decimal lock ++ (10 ∷ [])) s u
-    → Short 18 d at (text_line (bytes_of "box" ∷ decimal i ∷ decimal sensor ∷ decimal position ∷ decimal lock ∷ [])) s u
-short-box i sensor position lock v w x y z =
-    short_word (bytes_of "box") (decimal i) (decimal sensor ∷ decimal position ∷ decimal lock ∷ []) (short-whole v)
-    (short_word (decimal i) (decimal sensor) (decimal position ∷ decimal lock ∷ []) w
-    (short_word (decimal sensor) (decimal position) (decimal lock ∷ []) x
-    (short_word (decimal position) (decimal lock) [] y (short-last (decimal lock) z))))
-
--- The lines of trains and boxes, one more.
-train_words : (l : Line) (i : ℕ) → let r = get_or l.trains i no_train in train_line l (i + 1) ≡ text_line (bytes_of "train" ∷ decimal (i + 1) ∷ decimal (route_at l.routes (i + 1) r.place) ∷ decimal (cond (leb r.covered 1) 0 (route_at l.routes (i + 1) (r.place + 1 - r.covered))) ∷ [])
+pub train_words : (l : Line) (i n : ℕ) → i < n → let r = get_or (take n l.trains) i no_train in train_line l (i + 1) ≡ text_line (bytes_of "train" ∷ decimal (i + 1) ∷ decimal (route_at l.routes (i + 1) r.place) ∷ decimal (cond (leb r.covered 1) 0 (route_at l.routes (i + 1) (r.place + 1 - r.covered))) ∷ [])
 unfolding train_line tail_of around around_on train_at
-train_words l i = rw nth_at
+train_words l i n h = rw (nth_at, get_or-take)
 
-box_words : (l : Line) (i : ℕ) → let x = get_or l.boxes i no_box in box_line l (i + 1) ≡ text_line (bytes_of "box" ∷ decimal (i + 1) ∷ decimal (bit x.sensor) ∷ decimal x.position ∷ decimal x.lock ∷ [])
+pub box_words : (l : Line) (i n : ℕ) → i < n → let x = get_or (take n l.boxes) i no_box in box_line l (i + 1) ≡ text_line (bytes_of "box" ∷ decimal (i + 1) ∷ decimal (bit x.sensor) ∷ decimal x.position ∷ decimal x.lock ∷ [])
 unfolding box_line box_at
-box_words l i = rw nth_at
+box_words l i n h = rw (nth_at, get_or-take)
 
-pub join_train : (l : Line) (i : ℕ) {d o p : List ℕ} {at j k : ℕ} → let r = get_or l.trains i no_train in Short (18 * i) d at (join_of i (train_line l)) j o → Short 18 o j (text_line (bytes_of "train" ∷ decimal (i + 1) ∷ decimal (route_at l.routes (i + 1) r.place) ∷ decimal (cond (leb r.covered 1) 0 (route_at l.routes (i + 1) (r.place + 1 - r.covered))) ∷ [])) k p → Short (18 * (i + 1)) d at (join_of (i + 1) (train_line l)) k p
-join_train l i a b = short_join (train_line l) i a (rw train_words b)
-
-pub join_box : (l : Line) (i : ℕ) {d o p : List ℕ} {at j k : ℕ} → let x = get_or l.boxes i no_box in Short (18 * i) d at (join_of i (box_line l)) j o → Short 18 o j (text_line (bytes_of "box" ∷ decimal (i + 1) ∷ decimal (bit x.sensor) ∷ decimal x.position ∷ decimal x.lock ∷ [])) k p → Short (18 * (i + 1)) d at (join_of (i + 1) (box_line l)) k p
-join_box l i a b = short_join (box_line l) i a (rw box_words b)
-
--- A line with its trains and boxes; how many steps there are.
-pub short-line : (l : Line) {d o p : List ℕ} {at a b : ℕ} → l.table.k ≤ 16 → l.table.m ≤ 96 → Short (18 * l.table.k) d at (join_of l.table.k (train_line l)) a o → Short (18 * l.table.m) o a (join_of l.table.m (box_line l)) b p → Short 2016 d at (line_text l) b p
-unfolding line_text
-short-line l h k a b = short-more (omega arith) (short-append a b)
-
-pub steps_counted : (bytes : List ℕ) → step_count bytes ≡ (length bytes + 2) / 3
+pub steps_counted : (bytes : List ℕ) → div_ceil (length bytes) 3 ≡ step_count bytes
 unfolding step_count
-steps_counted bytes = refl
+steps_counted bytes = omega arith
 
--- The line of a refused file, without and with a place; and the text of a run of n steps, without and with its last line.
-pub short_file : (x : Refusal) {d o p : List ℕ} {at a b : ℕ} → tells_place x.code ≡ false → Written d at (bytes_of "file ") a o
-    → Short 4 o a (decimal x.code ++ (10 ∷ [])) b p → Short 18 d at (file_line x) b p
+-- The line of a refused file, where the error is about a place of a route, and where it is not.
+pub place_words : (e : FileError) (at : RoutePlace) {c : ℕ} → (e ≡ NoSuchSegment at) ⊎ (e ≡ NotFollowing at) → c ≡ (refusal_of e).code → file_line (refusal_of e) ≡ text_line (bytes_of "file" ∷ decimal c ∷ decimal at.train ∷ decimal at.place ∷ [])
+unfolding file_line tells_place
+place_words e at (inl h) k = rw (k, h)
+place_words e at (inr h) k = rw (k, h)
+
+no_place : (e : FileError) → ((at : RoutePlace) → e ≡ NoSuchSegment at → ⊥) → ((at : RoutePlace) → e ≡ NotFollowing at → ⊥) → tells_place (refusal_of e).code ≡ false
+unfolding tells_place
+no_place TooShort a b = refl
+no_place NoMark a b = refl
+no_place UnknownVersion a b = refl
+no_place BadCounts a b = refl
+no_place WrongLength a b = refl
+no_place BadSegment a b = refl
+no_place BadBox a b = refl
+no_place BadListing a b = refl
+no_place Loop a b = refl
+no_place BadRouteShape a b = refl
+no_place (NoSuchSegment at) a b = absurd (a at refl)
+no_place SharedStart a b = refl
+no_place NoSuchTrain a b = refl
+no_place NoRoom a b = refl
+no_place (NotFollowing at) a b = absurd (b at refl)
+no_place StartAgainstWay a b = refl
+
+pub code_words : (e : FileError) {c : ℕ} → ((at : RoutePlace) → e ≡ NoSuchSegment at → ⊥) → ((at : RoutePlace) → e ≡ NotFollowing at → ⊥) → c ≡ (refusal_of e).code → file_line (refusal_of e) ≡ text_line (bytes_of "file" ∷ decimal c ∷ [])
 unfolding file_line
-short_file x e a b =
-    rw e (short-more (omega arith) (short_word (bytes_of "file") (decimal x.code) [] (short-whole a) (short-last (decimal x.code) b)))
+code_words e a b k = rw (k, no_place e a b)
 
-pub short_file_place : (x : Refusal) {d o p q r : List ℕ} {at a b c e : ℕ} → tells_place x.code ≡ true → Written d at (bytes_of "file ") a o
-    → Short 4 o a (decimal x.code ++ (32 ∷ [])) b p → Short 4 p b (decimal x.train ++ (32 ∷ [])) c q
-    → Short 4 q c (decimal x.place ++ (10 ∷ [])) e r → Short 18 d at (file_line x) e r
-unfolding file_line
-short_file_place x h s t u v =
-    rw h (short-more (omega arith) (four_words (bytes_of "file") (decimal x.code) (decimal x.train) (decimal x.place) (short-whole s) t u v))
+-- The text of a run, without and with its last line.
+pub run_written : (l : Line) (n : ℕ) {more : Bool} {s : List ℕ} (m : List ℕ) {p q r u : Pen} → more ≡ false → (l.table.k ≤ 16) × (l.table.m ≤ 96) → Short (18 * n) p s q → Short (18 * l.table.k) q (join_of l.table.k (train_line l)) r → Short (18 * l.table.m) r (join_of l.table.m (box_line l)) u → Short (18 * (n + 113)) p (s ++ line_text l ++ cond more m []) u
+unfolding line_text
+run_written l n m e h a b c =
+    record {
+      written = rw (e, append-nil) (written_append a.written (written_append b.written c.written));
+      short = omega arith;
+    }
 
-pub short-run : (n : ℕ) {d o p s l : List ℕ} {at a b : ℕ} → Short (18 * n) d at s a o → Short 2016 o a l b p → Short (18 * (n + 113)) d at (s ++ l ++ []) b p
-short-run n a b = rw append-nil (short-more (omega arith) (short-append a b))
-
-pub short-run-more : (n : ℕ) {d o p q s l : List ℕ} {at a b c : ℕ} → Short (18 * n) d at s a o → Short 2016 o a l b p → Written p b (bytes_of "more\n") c q → Short (18 * (n + 113)) d at (s ++ l ++ text_line (bytes_of "more" ∷ [])) c q
-short-run-more n a b c = short-more (omega arith) (short-append (short-append a b) (short-last (bytes_of "more") (short-whole c)))
+pub more_written : (l : Line) (n : ℕ) {more : Bool} {s m : List ℕ} {p q r u v : Pen} → more ≡ true → (l.table.k ≤ 16) × (l.table.m ≤ 96) → Short (18 * n) p s q → Short (18 * l.table.k) q (join_of l.table.k (train_line l)) r → Short (18 * l.table.m) r (join_of l.table.m (box_line l)) u → Short 18 u m v → Short (18 * (n + 113)) p (s ++ line_text l ++ cond more m []) v
+unfolding line_text
+more_written l n e h a b c d =
+    record {
+      written = rw e (written_append (written_append a.written (written_append b.written c.written)) d.written);
+      short = omega arith;
+    }

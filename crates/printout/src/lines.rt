@@ -1,54 +1,67 @@
 // Lines of the text, each of at most 18 bytes, and the lines of all steps, trains and boxes, one after the other.
-ghost use Rattle.std.specs.Prelude.{◌≡◌, ◌+◌, ◌-◌, ◌*◌, ◌≤◌, ◌<◌, cond, ◌∷◌, ◌++◌, [], leb, length, get_or};
+ghost use Rattle.std.specs.Prelude.{◌≡◌, ◌+◌, ◌-◌, ◌*◌, ◌≤◌, ◌<◌, cond, ◌∷◌, ◌++◌, [], leb, length, map, get_or};
 ghost use Rattle.rules.specs.Rows.{join_of};
 ghost use Rattle.rules.specs.Track.{route_at};
-ghost use Rattle.rules.specs.Placing.{tells_place};
+ghost use Rattle.rules.specs.Errors.{refusal_of};
 ghost use Rattle.rules.specs.Run.{step_count};
-ghost use Rattle.rules.specs.Printout.{bytes_of, decimal, text_line, step_line_of, train_line, bit, box_line, line_text, file_line};
+ghost use Rattle.rules.specs.Printout.{bytes_of, decimal, text_line, step_line, step_line_of, train_line, bit, box_line, line_text, file_line};
+ghost use Rattle.writing.specs.Written.{HasRoom, Written};
 ghost use Rattle.printout.specs.Short.{Short};
 
-use crate::words;
-use rules::{Line, Refusal, SwitchBox, Train};
+use itoa::Buffer;
+use rules::{FileError, Line, SwitchBox, Train};
+use writing::Pen;
 
-// The byte at place i, 0 where there is none.
-fn byte_at(bytes: &[u8], i: usize) -> u8
-    ensures { result ≡ get_or bytes.now i 0 }
+// A space and a number.
+#[tactic(auto, using(crate::proofs::Laws::printed_decimal, writing::proofs::Laws::written_append))]
+fn put_number(x: u8, pen: &mut Pen)
+    requires { HasRoom pen.old (length (decimal x) + 1) }
+    ensures { Written pen.old (32 ∷ decimal x) pen.new }
 {
-    if i < bytes.len() { bytes[i] } else { 0 }
+    pen.put(b" ");
+    pen.put(Buffer::new().format(x).as_bytes());
 }
 
-// The line of step i + 1.
-fn put_step_line(steps: &[u8], answers: &[u8], i: usize, text: &mut [u8], at: usize) -> usize
-    requires i_bound { i < 65535 }
-    requires i_in_bounds { i < length answers.now }
-    requires at_in_bounds { at + 18 ≤ length text.old }
-    ensures { Short 18 text.old at (step_line_of steps.now answers.now (i + 1)) result text.new }
+// A line: a word, and numbers after it.
+fn put_line(word: &[u8], numbers: &[u8], pen: &mut Pen)
+    requires room { HasRoom pen.old 18 }
+    requires fits { length (text_line (word.now ∷ map decimal numbers.now)) ≤ 18 }
+    ensures { Short 18 pen.old (text_line (word.now ∷ map decimal numbers.now)) pen.new }
 {
-    let first = 3 * i;
-    let kind = byte_at(steps, first);
-    let train = byte_at(steps, first + 1);
-    let code = answers[i];
-    let mut j = words::put_count(text, at, (i + 1) as u16);
-    j = words::put_number(text, j, kind, b' ');
-    j = words::put_number(text, j, train, b' ');
-    words::put_number(text, j, code, b'\n')
-}
-
-// The lines of all steps, from the front of the text on.
-fn put_step_lines(steps: &[u8], answers: &[u8], text: &mut [u8]) -> usize
-    requires steps_bound { step_count steps.now ≤ 65535 }
-    requires steps_in_bounds { step_count steps.now ≤ length answers.now }
-    requires steps_in_bounds_2 { 18 * step_count steps.now ≤ length text.old }
-    ensures { Short (18 * step_count steps.now) text.old 0 (join_of (step_count steps.now) (step_line_of steps.now answers.now)) result text.new }
-{
-    let count = (steps.len() + 2) / 3;
-    let mut j: usize = 0;
-    let mut i: usize = 0;
-    while i < count {
-        j = put_step_line(steps, answers, i, text, j);
-        i += 1;
+    pen.put(word);
+    for x in numbers {
+        put_number(*x, pen);
     }
-    j
+    pen.put(b"\n");
+}
+
+// The line of step i + 1, whose code this is. Of a last step of one or two bytes, a missing byte is 0.
+#[tactic(auto, using(crate::proofs::Laws::three_fit, crate::proofs::Laws::printed_decimal), unfolding(rules::specs::Printout::step_line))]
+fn put_step_line(steps: &[u8], i: usize, code: u8, pen: &mut Pen)
+    requires i_bound { i < 65535 }
+    requires room { HasRoom pen.old 18 }
+    ensures { Short 18 pen.old (step_line (i + 1) (get_or steps.now (3 * i) 0) (get_or steps.now (3 * i + 1) 0) code) pen.new }
+{
+    let kind = steps.get(3 * i).copied().unwrap_or(0);
+    let train = steps.get(3 * i + 1).copied().unwrap_or(0);
+    let count = i as u16 + 1;
+    put_line(
+        Buffer::new().format(count).as_bytes(),
+        &[kind, train, code],
+        pen,
+    );
+}
+
+// The lines of all steps, whose codes these are.
+fn put_step_lines(steps: &[u8], answers: &[u8], pen: &mut Pen)
+    requires steps_bound { step_count steps.now ≤ 65535 }
+    requires answered { length answers.now ≡ step_count steps.now }
+    requires room { HasRoom pen.old (18 * step_count steps.now) }
+    ensures { Short (18 * step_count steps.now) pen.old (join_of (step_count steps.now) (step_line_of steps.now answers.now)) pen.new }
+{
+    for (i, code) in answers.iter().enumerate() {
+        put_step_line(steps, i, *code, pen);
+    }
 }
 
 // The tail of the train with this number, 0 where it covers its front alone.
@@ -58,129 +71,84 @@ fn tail(routes: &[u8; 1024], number: u8, place: u8, covered: u8) -> u8
     if covered <= 1 {
         return 0;
     }
-    if covered > place {
-        return 0;
-    }
-    placing::segment_at(routes, number, (place - covered) as usize + 1)
+    let from = usize::from(place) + 1;
+    placing::segment_at(routes, number, from.saturating_sub(usize::from(covered)))
 }
 
-// The line of train i + 1, whose record this is.
-fn put_train_line(r: Train, routes: &[u8; 1024], i: usize, text: &mut [u8], at: usize) -> usize
-    requires i_bound { i < 16 }
-    requires at_in_bounds { at + 18 ≤ length text.old }
-    ensures { Short 18 text.old at (text_line (bytes_of "train" ∷ decimal (i + 1) ∷ decimal (route_at routes.now (i + 1) r.place) ∷ decimal (cond (leb r.covered 1) 0 (route_at routes.now (i + 1) (r.place + 1 - r.covered))) ∷ [])) result text.new }
+// The line of the train with this number.
+#[tactic(auto, using(crate::proofs::Laws::three_fit))]
+fn put_train_line(number: u8, r: &Train, routes: &[u8; 1024], pen: &mut Pen)
+    requires { HasRoom pen.old 18 }
+    ensures { Short 18 pen.old (text_line (bytes_of "train" ∷ decimal number ∷ decimal (route_at routes.now number r.now.place) ∷ decimal (cond (leb r.now.covered 1) 0 (route_at routes.now number (r.now.place + 1 - r.now.covered))) ∷ [])) pen.new }
 {
-    let number = (i + 1) as u8;
-    let front = placing::segment_at(routes, number, r.place as usize);
+    let front = placing::segment_at(routes, number, usize::from(r.place));
     let last = tail(routes, number, r.place, r.covered);
-    let mut j = words::put_word(text, at, b"train ");
-    j = words::put_number(text, j, number, b' ');
-    j = words::put_number(text, j, front, b' ');
-    words::put_number(text, j, last, b'\n')
+    put_line(b"train", &[number, front, last], pen);
 }
 
 // The lines of all trains.
-fn put_train_lines(l: Line, text: &mut [u8], at: usize) -> usize
-    requires k_bound { l.table.k ≤ 16 }
-    requires k_in_bounds { at + 18 * l.table.k ≤ length text.old }
-    ensures { Short (18 * l.table.k) text.old at (join_of l.table.k (train_line l)) result text.new }
+fn put_train_lines(l: &Line, pen: &mut Pen)
+    requires k_bound { l.now.table.k ≤ 16 }
+    requires room { HasRoom pen.old (18 * l.now.table.k) }
+    ensures { Short (18 * l.now.table.k) pen.old (join_of l.now.table.k (train_line l.now)) pen.new }
 {
-    let table = l.table;
-    let k = table.k as usize;
-    let routes = l.routes;
-    let mut j = at;
-    let mut i: usize = 0;
-    while i < k {
-        let r = l.trains[i];
-        j = put_train_line(r, &routes, i, text, j);
-        i += 1;
+    for (i, r) in l.trains[..usize::from(l.table.k)].iter().enumerate() {
+        put_train_line(i as u8 + 1, r, &l.routes, pen);
     }
-    j
 }
 
-// The line of box i + 1, whose record this is.
-fn put_box_line(x: SwitchBox, i: usize, text: &mut [u8], at: usize) -> usize
-    requires i_bound { i < 96 }
-    requires at_in_bounds { at + 18 ≤ length text.old }
-    ensures { Short 18 text.old at (text_line (bytes_of "box" ∷ decimal (i + 1) ∷ decimal (bit x.sensor) ∷ decimal x.position ∷ decimal x.lock ∷ [])) result text.new }
+// The line of the box with this number.
+#[tactic(auto, using(crate::proofs::Laws::box_fits), unfolding(rules::specs::Printout::bit))]
+fn put_box_line(number: u8, x: SwitchBox, pen: &mut Pen)
+    requires number_bound { number ≤ 96 }
+    requires room { HasRoom pen.old 18 }
+    ensures { Short 18 pen.old (text_line (bytes_of "box" ∷ decimal number ∷ decimal (bit x.sensor) ∷ decimal x.position ∷ decimal x.lock ∷ [])) pen.new }
 {
-    let mut j = words::put_word(text, at, b"box ");
-    j = words::put_number(text, j, (i + 1) as u8, b' ');
-    j = words::put_bit(text, j, x.sensor);
-    j = words::put_number(text, j, x.position, b' ');
-    words::put_number(text, j, x.lock, b'\n')
+    put_line(
+        b"box",
+        &[number, u8::from(x.sensor), x.position, x.lock],
+        pen,
+    );
 }
 
 // The lines of all boxes.
-fn put_box_lines(l: Line, text: &mut [u8], at: usize) -> usize
-    requires m_bound { l.table.m ≤ 96 }
-    requires m_in_bounds { at + 18 * l.table.m ≤ length text.old }
-    ensures { Short (18 * l.table.m) text.old at (join_of l.table.m (box_line l)) result text.new }
+fn put_box_lines(l: &Line, pen: &mut Pen)
+    requires m_bound { l.now.table.m ≤ 96 }
+    requires room { HasRoom pen.old (18 * l.now.table.m) }
+    ensures { Short (18 * l.now.table.m) pen.old (join_of l.now.table.m (box_line l.now)) pen.new }
 {
-    let table = l.table;
-    let m = table.m as usize;
-    let mut j = at;
-    let mut i: usize = 0;
-    while i < m {
-        let x = l.boxes[i];
-        j = put_box_line(x, i, text, j);
-        i += 1;
+    for (i, x) in l.boxes[..usize::from(l.table.m)].iter().enumerate() {
+        put_box_line(i as u8 + 1, *x, pen);
     }
-    j
 }
 
-// The lines of all trains and boxes.
-fn put_line_text(l: Line, text: &mut [u8], at: usize) -> usize
-    requires k_bound { (l.table.k ≤ 16) × (l.table.m ≤ 96) }
-    requires at_in_bounds { at + 2016 ≤ length text.old }
-    ensures { Short 2016 text.old at (line_text l) result text.new }
+// The line of a refused file: the code and, where it is about a place of a route, train and place.
+#[tactic(auto, using(crate::proofs::Laws::three_fit, crate::proofs::Laws::one_fits), unfolding(rules::specs::Printout::file_line))]
+pub(crate) fn put_file_line(error: FileError, pen: &mut Pen)
+    requires { HasRoom pen.old 18 }
+    ensures { Short 18 pen.old (file_line (refusal_of error)) pen.new }
 {
-    let trains = put_train_lines(l, text, at);
-    put_box_lines(l, text, trains)
-}
-
-// A code that is about a place of a route.
-fn tells_place(code: u8) -> bool
-    ensures { result ≡ tells_place code }
-{
-    if code == 11 {
-        return true;
+    match error {
+        FileError::NoSuchSegment(at) | FileError::NotFollowing(at) => {
+            put_line(b"file", &[error.code(), at.train, at.place], pen);
+        }
+        _ => put_line(b"file", &[error.code()], pen),
     }
-    code == 28
 }
 
-// The line of a refused file, at the front of the text: the code and, where it is about a place of a route, train and place.
-pub(crate) fn put_file_line(refusal: Refusal, text: &mut [u8]) -> usize
-    requires { 18 ≤ length text.old }
-    ensures { Short 18 text.old 0 (file_line refusal) result text.new }
-{
-    let mut j = words::put_word(text, 0, b"file ");
-    if !tells_place(refusal.code) {
-        return words::put_number(text, j, refusal.code, b'\n');
-    }
-    j = words::put_number(text, j, refusal.code, b' ');
-    j = words::put_number(text, j, refusal.train, b' ');
-    words::put_number(text, j, refusal.place, b'\n')
-}
-
-// The text of a run, at the front of the text: the lines of all steps, the line after them, and the last line where there are more bytes.
-pub(crate) fn put_run_text(
-    l: Line,
-    steps: &[u8],
-    answers: &[u8],
-    more: bool,
-    text: &mut [u8],
-) -> usize
-    requires k_bound { (l.table.k ≤ 16) × (l.table.m ≤ 96) }
+// The text of a run: the lines of all steps, the line after them, and the last line where there are more bytes.
+#[tactic(auto, using(crate::proofs::Laws::word_fits))]
+pub(crate) fn put_run(l: &Line, steps: &[u8], answers: &[u8], more: bool, pen: &mut Pen)
+    requires k_bound { (l.now.table.k ≤ 16) × (l.now.table.m ≤ 96) }
     requires steps_bound { step_count steps.now ≤ 65535 }
-    requires steps_in_bounds { step_count steps.now ≤ length answers.now }
-    requires steps_in_bounds_2 { 18 * (step_count steps.now + 113) ≤ length text.old }
-    ensures { Short (18 * (step_count steps.now + 113)) text.old 0 (join_of (step_count steps.now) (step_line_of steps.now answers.now) ++ line_text l ++ cond more (text_line (bytes_of "more" ∷ [])) []) result text.new }
+    requires answered { length answers.now ≡ step_count steps.now }
+    requires room { HasRoom pen.old (18 * (step_count steps.now + 113)) }
+    ensures { Short (18 * (step_count steps.now + 113)) pen.old (join_of (step_count steps.now) (step_line_of steps.now answers.now) ++ line_text l.now ++ cond more (text_line (bytes_of "more" ∷ [])) []) pen.new }
 {
-    let steps_end = put_step_lines(steps, answers, text);
-    let line_end = put_line_text(l, text, steps_end);
+    put_step_lines(steps, answers, pen);
+    put_train_lines(l, pen);
+    put_box_lines(l, pen);
     if more {
-        return words::put_word(text, line_end, b"more\n");
+        put_line(b"more", &[], pen);
     }
-    line_end
 }

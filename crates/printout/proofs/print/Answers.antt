@@ -1,49 +1,47 @@
--- `print` meets its contract: each return has its case of the definitions.
-use mathlib.Core.Path.{sym, ◌∙◌}
-use native.Mathlib.Omega.{arith}
-use lib.Seq.{length-take-le}
-use Rattle.printout.proofs.Whole.{taken, answers_short, text_short, run-code-is, run_limits, file_printed, run-printed}
+use Rattle.std.proofs.Common.{◌+◌, ◌*◌, ◌∙◌, ap, inl, inr, length, length-take-le, rules, arith}
+use Rattle.rules.specs.Run.{step_count}
+use Rattle.rules.specs.Printout.{taken_of, most_steps, printout}
+use Rattle.printout.specs.Short.{Short}
+use Rattle.printout.proofs.Laws.{short_more}
+use Rattle.printout.proofs.Whole.{taken, steps_taken, most_taken, refused_short, printed, file_printed, run_printed, run_limits}
+use Rattle.printout.proofs.print.Goals.{then-answers-count-via-then-answers-count, then-answers-count-via-else-answers-count+then-text-count, in-Err, in-Ok}
 use Rattle.printout.proofs.print.Goals as goal
-
-pub overflow_add-count : goal.overflow_add-count
-overflow_add-count c = omega (arith, taken _ _ c.taken_size-end.ensures)
 
 pub returns-then-answers-count : goal.returns-then-answers-count
 returns-then-answers-count c =
-    let w = answers_short c.args.file.now c.args.input.now c.args.answers.now c.args.text.now (taken _ _ c.taken_size-end.ensures) c.if-answers-count.true in
-    record { code_value = w.0; length_value = w.1.0; text_after = w.1.1.0; answers_after = w.1.1.1 }
+    let count = steps_taken c.args.input.now c.min.result c.min.ensures c.div_ceil-count.ensures in
+    let w = refused_short c.args.file.now c.args.input.now c.args.answers.now c.args.text.now (elim c.then-answers-count.branch [
+      | then-answers-count-via-then-answers-count w ↦ inl (omega arith)
+      | then-answers-count-via-else-answers-count+then-text-count w ↦ inr (omega arith)
+    ]) in
+    record { code_value = w.0; length_value = tt; text_after = w.1; answers_after = w.2 }
 
-pub overflow_mul-count : goal.overflow_mul-count
-overflow_mul-count c = omega (arith, taken _ _ c.taken_size-end.ensures)
-
-pub returns-then-text-count : goal.returns-then-text-count
-returns-then-text-count c =
-    let w = text_short c.args.file.now c.args.input.now c.args.answers.now c.args.text.now (taken _ _ c.taken_size-end.ensures) c.if-answers-count.false c.if-text-count.true in
-    record { code_value = w.0; length_value = w.1.0; text_after = w.1.1.0; answers_after = w.1.1.1 }
-
-pub slice_bounds-taken-end : goal.slice_bounds-taken-end
-slice_bounds-taken-end c = sym (length-take-le _ _ (taken _ _ c.taken_size-end.ensures).within)
-
-pub returns-then-after-ne0 : goal.returns-then-after-ne0
-returns-then-after-ne0 c =
-    let w = file_printed c.args.file.now c.args.input.now c.args.answers.now c.args.text.now (taken _ _ c.taken_size-end.ensures) c.if-answers-count.false c.if-text-count.false c.run-after.ensures.value
-    c.if-after-ne0.true c.run-after.ensures.answers_after c.put_file_line.ensures in
-    record { code_value = w.0; length_value = w.1.0; text_after = w.1.1.0; answers_after = w.1.1.1 }
-
-pub put_run_text-requires : goal.put_run_text-requires
-put_run_text-requires c =
-    let t = taken _ _ c.taken_size-end.ensures in
-    let code = run-code-is _ _ _ t c.if-answers-count.false c.run-after.ensures.value in
-    let kept = c.run-after.auto.answers in
+pub put_run-requires : goal.put_run-requires
+put_run-requires c =
+    let count = steps_taken c.args.input.now c.min.result c.min.ensures c.div_ceil-count.ensures in
+    let e = taken c.args.input.now c.min.result c.min.ensures in
     record {
-      k_bound = run_limits (sym code ∙ c.if-after-ne0.false) (c.run-after.ensures.safe_run c.if-after-ne0.false);
-      steps_bound = omega (arith, t);
-      steps_in_bounds = omega (arith, t, kept, c.if-answers-count.false);
-      steps_in_bounds_2 = omega (arith, t, c.if-text-count.false);
+      k_bound = run_limits c.args.file.now c.args.input.now c.args.answers.now (omega arith) (rw e at c.in-Ok.ensures.value) (rw e at c.in-Ok.ensures.safe_run);
+      steps_bound = rw e (most_taken _);
+      answered = rw e (length-take-le _ _ (omega arith) ∙ count);
+      room = rw e (omega (arith, ap length c.new-pen.ensures.bytes));
     }
 
 pub returns : goal.returns
 returns c =
-    let w = run-printed c.args.file.now c.args.input.now c.args.answers.now c.args.text.now (taken _ _ c.taken_size-end.ensures) c.if-answers-count.false c.if-text-count.false c.run-after.ensures.value
-    c.if-after-ne0.false c.run-after.ensures.answers_after (c.run-after.ensures.safe_run c.if-after-ne0.false) c.put_run_text.ensures in
-    record { code_value = w.0; length_value = w.1.0; text_after = w.1.1.0; answers_after = w.1.1.1 }
+    let count = steps_taken c.args.input.now c.min.result c.min.ensures c.div_ceil-count.ensures in
+    let e = taken c.args.input.now c.min.result c.min.ensures in
+    let steps = taken_of most_steps c.args.input.now in
+    let done : Short (18 * (step_count steps + 113)) c.new-pen.result (printout c.args.file.now c.args.input.now) c.match-run.pen = elim c.match-run.branch [
+      | in-Err w ↦
+          let value = rw e at w.in-Err.ensures.value in
+          rw (file_printed c.args.file.now c.args.input.now c.args.answers.now (omega arith) _ value, w.pen-is) (short_more (omega arith) w.put_file_line.ensures)
+      | in-Ok w ↦
+          let value = rw e at w.in-Ok.ensures.value in
+          let safe = rw e at w.in-Ok.ensures.safe_run in
+          rw (run_printed c.args.file.now c.args.input.now c.args.answers.now (omega arith) value safe, w.pen-is) (rw (e, count) at w.put_run.ensures)
+    ] in
+    let w = printed c.args.file.now c.args.input.now c.args.answers.now c.args.text.now (omega arith) (omega arith) c.new-pen.ensures.front c.new-pen.ensures.bytes (omega arith) done (rw e at c.run.ensures.answers_after) in
+    let same = done.written.same in
+    let after = w.2 in
+    record { code_value = w.0; length_value = w.1; text_after = search (rules, after, same); answers_after = w.3 }

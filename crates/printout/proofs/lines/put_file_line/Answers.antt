@@ -1,13 +1,10 @@
--- The word, the code and, where it tells a place, train and place, each where the word before it ends.
-use Rattle.rules.proofs.Tests.{answered}
-use Rattle.printout.proofs.Laws.{short_file, short_file_place}
+use Rattle.printout.proofs.Laws.{place_words, code_words}
 use Rattle.printout.proofs.lines.put_file_line.Goals as goal
 
-pub returns-then-not-tells_place : goal.returns-then-not-tells_place
-returns-then-not-tells_place c =
-    short_file _ (answered _ _ _ c.tells_place.ensures c.if-not-tells_place.true) c.put_word-j.ensures c.put_number.ensures
+pub returns-in_default : goal.returns-in_default
+returns-in_default c =
+    rw (code_words _ c.in_default.not-NoSuchSegment c.in_default.not-NotFollowing c.code.ensures) c.put_line.ensures
 
-pub returns : goal.returns
-returns c =
-    short_file_place _ (answered _ _ _ c.tells_place.ensures c.if-not-tells_place.false)
-    c.put_word-j.ensures c.put_number-j.ensures c.put_number-j-2.ensures c.put_number-2.ensures
+pub returns-in-NoSuchSegment : goal.returns-in-NoSuchSegment
+returns-in-NoSuchSegment c =
+    rw (place_words _ _ c.in-NoSuchSegment.is (rw c.in-NoSuchSegment.error-is at c.code-in-NoSuchSegment.ensures)) c.put_line-in-NoSuchSegment.ensures

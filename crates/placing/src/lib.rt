@@ -154,6 +154,7 @@ fn some_start_against(table: &Table, columns: &Columns) -> bool
     ensures { let t = table.now in
         result ≡ any_of t.k (start_against_at (way_in columns.now.ways) t.trains t.routes) }
 {
+    // As a slice, whose length the proof knows.
     let trains: &[TrainPlan] = &table.trains;
     trains[..usize::from(table.k)].iter().enumerate().any(|(i, p)| {
         let first = segment_at(&table.routes, i as u8 + 1, 1);

@@ -1,8 +1,7 @@
 // The answers to a file, as a line of text with a space between them. Each is a refusal and, where bytes come with it, a colon and
 // the bytes in hexadecimal.
-use crate::parts::front;
-use crate::text::Hex;
-use rules::{Refusal, Table};
+use crate::text::{Hex, Told};
+use rules::Table;
 use std::io;
 
 // Room for each file of a corpus. A file that is not refused for its length has at most 4,888 bytes.
@@ -10,11 +9,11 @@ const LONGEST: usize = 4896;
 
 // Decides a file. A refused file's line has the reader's refusal alone, an accepted one's also the writer's answers and the routes.
 pub(crate) fn decide(rt: &impl Print, file: &[u8]) -> io::Result<()> {
-    let outcome = reading::read(file);
-    put_refusal(rt, outcome.refusal)?;
-    if outcome.refusal.code == 0 {
-        put_written(rt, outcome.line.table)?;
-        put_routes(rt, file, outcome.line.table.k)?;
+    let read = reading::read(file);
+    print!(rt; "{}", Told(&read))?;
+    if let Ok(line) = read {
+        put_written(rt, &line.table)?;
+        put_routes(rt, file, line.table.k)?;
     }
     println!(rt)
 }
@@ -38,7 +37,7 @@ pub(crate) fn decide_changed(
 }
 
 // The writer's refusal and bytes for a buffer as long as the file, and its refusal for one that is a byte shorter.
-fn put_written(rt: &impl Print, table: Table) -> io::Result<()> {
+fn put_written(rt: &impl Print, table: &Table) -> io::Result<()> {
     let size = writing::file_size(table);
     if (1..=LONGEST).contains(&size) {
         put_write(rt, table, &mut [0; LONGEST][..size])?;
@@ -47,12 +46,11 @@ fn put_written(rt: &impl Print, table: Table) -> io::Result<()> {
     Ok(())
 }
 
-// The writer's refusal for a lent buffer and, where its code is 0, the bytes.
-fn put_write(rt: &impl Print, table: Table, buffer: &mut [u8]) -> io::Result<()> {
-    let refusal = writing::write(table, buffer);
-    print!(rt; " ")?;
-    put_refusal(rt, refusal)?;
-    if refusal.code == 0 {
+// The writer's refusal for a lent buffer and, where it is not refused, the bytes.
+fn put_write(rt: &impl Print, table: &Table, buffer: &mut [u8]) -> io::Result<()> {
+    let wrote = writing::write(table, buffer);
+    print!(rt; " {}", Told(&wrote))?;
+    if wrote.is_ok() {
         print!(rt; ":{}", Hex(buffer))?;
     }
     Ok(())
@@ -69,28 +67,8 @@ fn put_routes(rt: &impl Print, file: &[u8], k: u8) -> io::Result<()> {
     put_route(rt, file, last)
 }
 
-// A train's refusal and route. What stands in the lent places before the call must not be seen after it.
-fn put_route(rt: &impl Print, file: &[u8], number: u8) -> io::Result<()> {
-    let mut code: u8 = 99;
-    let mut train: u8 = 99;
-    let mut place: u8 = 99;
-    let route = tablefile::route(file, number, &mut code, &mut train, &mut place);
-    print!(rt; " ")?;
-    put_refused(rt, Refusal { code, train, place }, route)
-}
-
-// A refusal: its code and, unless both are 0, train and place, each after a comma.
-fn put_refusal(rt: &impl Print, refusal: Refusal) -> io::Result<()> {
-    let Refusal { code, train, place } = refusal;
-    print!(rt; "{code}")?;
-    if train != 0 || place != 0 {
-        print!(rt; ",{train},{place}")?;
-    }
-    Ok(())
-}
-
-// A refusal, a colon and bytes.
-pub(crate) fn put_refused(rt: &impl Print, refusal: Refusal, bytes: &[u8]) -> io::Result<()> {
-    put_refusal(rt, refusal)?;
-    print!(rt; ":{}", Hex(bytes))
+// A train's refusal and route.
+fn put_route(rt: &impl Print, file: &[u8], train: u8) -> io::Result<()> {
+    let route = tablefile::route(file, train);
+    print!(rt; " {}:{}", Told(&route), Hex(route.unwrap_or(&[])))
 }

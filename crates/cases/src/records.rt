@@ -24,13 +24,13 @@ enum Record<'a> {
 
 // Decides the records one after the other.
 pub(crate) fn decide_all(rt: &impl Print, corpus: &[u8]) -> io::Result<()> {
-    let mut file = front(corpus, 0);
-    let mut steps = file;
+    let mut file: &[u8] = &[];
+    let mut steps: &[u8] = &[];
     for record in (Records { rest: corpus }) {
         match record {
             Record::File(bytes) => {
                 file = bytes;
-                steps = front(bytes, 0);
+                steps = &[];
                 decide(rt, file)?;
             }
             Record::Front(size) => decide(rt, front(file, size))?,

@@ -1,8 +1,9 @@
 // Runs of the engine: a base file with a list of steps, and a single step on a line record made up from the line that they lead to.
 // The lent buffers are filled with bytes that are no code, so that what is left alone shows.
-use crate::answers::put_refused;
 use crate::changes::altered;
 use crate::numbers::Numbers;
+use crate::text::{Hex, Told};
+use rules::{BoxPlan, Line, Segment, SwitchBox, Table, Train, TrainPlan};
 use std::io;
 
 // Room for the answers to each list of steps of a corpus.
@@ -24,29 +25,49 @@ pub(crate) fn put_runs(rt: &impl Print, file: &[u8], steps: &[u8]) -> io::Result
     println!(rt)
 }
 
-// A run's refusal, the whole lent buffer after it, and the line.
+// A run's refusal, the whole lent buffer after it, and the line's numbers, of which a refused run has none.
 fn put_run(rt: &impl Print, file: &[u8], steps: &[u8], buffer: &mut [u8]) -> io::Result<()> {
-    let outcome = engine::run(file, steps, buffer);
-    put_refused(rt, outcome.refusal, buffer)?;
-    print!(rt; " {}", Numbers(&outcome.line))
+    let ran = engine::run(file, steps, buffer);
+    print!(rt; "{}:{} ", Told(&ran), Hex(buffer))?;
+    match ran {
+        Ok(line) => print!(rt; "{}", Numbers(&line)),
+        Err(_) => print!(rt; ":"),
+    }
 }
 
-// One step on the line that some steps lead to, with changes. `made` has the number of the changes, the changes of four bytes each,
-// and the step.
+// One step on the line that some steps lead to, with changes; on an empty line where the run is refused. `made` has the number of the
+// changes, the changes of four bytes each, and the step.
 pub(crate) fn put_made_up(
     rt: &impl Print,
     file: &[u8],
     steps: &[u8],
     made: &[u8],
 ) -> io::Result<()> {
-    let start = engine::run(file, steps, &mut [UNUSED; ROOM]);
+    let ran = engine::run(file, steps, &mut [UNUSED; ROOM]);
+    let start = ran.unwrap_or_else(|_| empty_line());
     let (line, [kind, train, more]) = match made {
-        [_, changes @ .., kind, train, more] => (
-            altered(start.line, changes),
-            [*kind, *train, *more],
-        ),
-        _ => (start.line, [0; 3]),
+        [_, changes @ .., kind, train, more] => (altered(start, changes), [*kind, *train, *more]),
+        _ => (start, [0; 3]),
     };
     let outcome = engine::step(line, kind, train, more);
     println!(rt; "{} {}", outcome.code, Numbers(&outcome.line))
+}
+
+// The line with nothing in it.
+fn empty_line() -> Line {
+    Line {
+        table: Table {
+            version: 0,
+            n: 0,
+            m: 0,
+            k: 0,
+            segments: [Segment::default(); 96],
+            boxes: [BoxPlan::default(); 96],
+            trains: [TrainPlan::default(); 16],
+            routes: [0; 1024],
+        },
+        boxes: [SwitchBox::default(); 96],
+        trains: [Train::default(); 16],
+        routes: [0; 1024],
+    }
 }

@@ -2,7 +2,7 @@
 // what 01 says ("Table S and its printout").
 #![tactic(auto)]
 
-ghost use Rattle.std.specs.Prelude.{◌≡◌, ◌≤◌, length, OnOk, take};
+ghost use Rattle.std.specs.Prelude.{◌≡◌, ◌≤◌, length, OnOk};
 ghost use Rattle.std.specs.Io.KnownBytes.{Appends};
 ghost use Rattle.rules.specs.Printout.{most_file, most_input, printout};
 
@@ -43,31 +43,15 @@ fn read_net(rt: &impl Files, buffer: &mut [u8]) -> usize
     }
 }
 
-// Puts what is printed at the start of the text's buffer, and answers its length.
-fn put_text(
-    net: &[u8],
-    input: &[u8],
-    answers: &mut [u8; MOST_STEPS],
-    text: &mut [u8; MOST_TEXT],
-) -> usize
-    ensures prefix_len { result ≤ length text.new }
-    ensures text_after { take result text.new ≡ printout net.now input.now }
-{
-    let printed = printout::print(net, input, answers, text);
-    printed.length
-}
-
-// Writes what is printed.
-fn write_text<W: Write>(
-    out: &mut W,
-    net: &[u8],
-    input: &[u8],
-    answers: &mut [u8; MOST_STEPS],
-    text: &mut [u8; MOST_TEXT],
-) -> io::Result<()>
+// Writes what is printed: the buffers have room for every text.
+#[tactic(auto, using(rules::proofs::Coded::file_coded, rules::proofs::Enough::room_enough, rules::proofs::Enough::text_front,
+    crate::proofs::Room::text_fits))]
+fn write_printout<W: Write>(out: &mut W, net: &[u8], input: &[u8]) -> io::Result<()>
     ensures { OnOk result (Appends (W.contents out.old) (W.contents out.new) (printout net.now input.now)) }
 {
-    let length = put_text(net, input, answers, text);
+    let mut answers = [0; MOST_STEPS];
+    let mut text = [0; MOST_TEXT];
+    let length = printout::print(net, input, &mut answers, &mut text).unwrap();
     out.write_all(&text[..length])
 }
 
@@ -77,13 +61,5 @@ fn main(rt: HostRuntime) -> io::Result<()> {
     let mut input = input_buffer();
     // The steps before a read that fails are taken.
     let (length, _) = input::fill(&mut rt.stdin(), &mut input);
-    let mut answers = [0u8; MOST_STEPS];
-    let mut text = [0u8; MOST_TEXT];
-    write_text(
-        &mut io::writer(&rt),
-        &net[..size],
-        &input[..length],
-        &mut answers,
-        &mut text,
-    )
+    write_printout(&mut io::writer(&rt), &net[..size], &input[..length])
 }

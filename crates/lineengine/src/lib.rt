@@ -4,6 +4,7 @@
 #![tactic(auto)]
 
 ghost use Rattle.std.specs.Prelude.{◌≡◌};
+ghost use Rattle.rules.specs.Errors.{refused};
 ghost use Rattle.rules.specs.File.{file_refusal};
 ghost use Rattle.rules.specs.Record.{checked_step};
 ghost use Rattle.rules.specs.Run.{run, answered};
@@ -12,7 +13,23 @@ ghost use Rattle.lineengine.specs.WriteBack.{write_back_refusal, written_back};
 ghost use Rattle.lineengine.specs.Safe.{SafelyAnswered};
 ghost use Rattle.lineengine.specs.Print.{printed_size};
 
-use rules::Refusal;
+use rules::{FileError, RoutePlace};
+
+// What a call ended in, told in numbers: answers the code, and puts the train and the place on its route that the error is about into the
+// lent places. All are 0 where the call is not refused, train and place also with an error that is about no place.
+fn tell<T>(ended: &Result<T, FileError>, train: &mut u8, place: &mut u8) -> u8
+    ensures value { result ≡ (refused ended.now).code }
+    ensures train_after { train.new ≡ (refused ended.now).train }
+    ensures place_after { place.new ≡ (refused ended.now).place }
+{
+    let (code, at) = match ended {
+        Ok(_) => (0, RoutePlace { train: 0, place: 0 }),
+        Err(e) => (e.code(), e.at()),
+    };
+    *train = at.train;
+    *place = at.place;
+    code
+}
 
 // The code of a table file: 0, or why it is refused, 1 to 12, 28 or 32; and with 11 and 28 the train and the place on its route, counted
 // from 1, with any other code 0.
@@ -22,10 +39,7 @@ pub extern "C" fn lineengine_check(table: &[u8], train: &mut u8, place: &mut u8)
     ensures train_after { train.new ≡ (file_refusal table.now).train }
     ensures place_after { place.new ≡ (file_refusal table.now).place }
 {
-    let checked = tablefile::read_table(table);
-    *train = checked.refusal.train;
-    *place = checked.refusal.place;
-    checked.refusal.code
+    tell(&tablefile::read_table(table), train, place)
 }
 
 // Runs a table file and all its steps, three bytes each, and puts the code of each step into the lent buffer. Code, train and place are
@@ -45,15 +59,14 @@ pub extern "C" fn lineengine_run(
     ensures answers_after { answers.new ≡ answered checked_step table.now steps.now answers.old }
     ensures safely_answered { result ≡ 0 → SafelyAnswered table.now steps.now answers.old answers.new }
 {
-    let ran = engine::run(table, steps, answers);
-    *train = ran.refusal.train;
-    *place = ran.refusal.place;
-    ran.refusal.code
+    tell(&engine::run(table, steps, answers), train, place)
 }
 
 // The printout of a table file and an input, at the front of the lent text, its length, and the codes of the steps in the
 // answers. With code 26, where a buffer is too short, all three are as they were. A refused table prints its code, with 11 and 28 train
 // and place too.
+#[tactic(auto, unfolding(crate::specs::Print::printed_size, rules::specs::Printout::print_length),
+    using(rules::proofs::Coded::file_coded))]
 #[unsafe(no_mangle)]
 pub extern "C" fn lineengine_print(
     table: &[u8],
@@ -67,27 +80,24 @@ pub extern "C" fn lineengine_print(
     ensures text_after { text.new ≡ printed_text table.now input.now answers.old text.old }
     ensures answers_after { answers.new ≡ printed_answers table.now input.now answers.old text.old }
 {
-    let printed = printout::print(table, input, answers, text);
-    let refused = printed.code;
-    if refused != 0 {
-        return refused;
+    match printout::print(table, input, answers, text) {
+        Ok(length) => {
+            *size = length;
+            0
+        }
+        Err(e) => e.code(),
     }
-    *size = printed.length;
-    0
 }
 
-// What `lineengine_write_back` does, with the refusal as one record.
-fn write_back(table: &[u8], buffer: &mut [u8]) -> Refusal
-    ensures value { result ≡ write_back_refusal table.now buffer.old }
+// What `lineengine_write_back` does, with the refusal as an error.
+#[tactic(auto, using(rules::proofs::Coded::file_coded, crate::proofs::Tables::refused_back, crate::proofs::Tables::refused_kept,
+    crate::proofs::Tables::accepted_back, crate::proofs::Tables::accepted_written))]
+fn write_back(table: &[u8], buffer: &mut [u8]) -> Result<(), FileError>
+    ensures value { refused result ≡ write_back_refusal table.now buffer.old }
     ensures buffer_after { buffer.new ≡ written_back table.now buffer.old }
 {
-    let file = tablefile::read_table(table);
-    let refusal = file.refusal;
-    if refusal.code != 0 {
-        return refusal;
-    }
-    let record = file.table;
-    writing::write(record, buffer)
+    let record = tablefile::read_table(table)?;
+    writing::write(&record, buffer)
 }
 
 // Reads a table file and writes its table to the front of the lent buffer: the bytes of the file. Code, train and place are the file's;
@@ -104,8 +114,5 @@ pub extern "C" fn lineengine_write_back(
     ensures place_after { place.new ≡ (write_back_refusal table.now buffer.old).place }
     ensures buffer_after { buffer.new ≡ written_back table.now buffer.old }
 {
-    let wrote = write_back(table, buffer);
-    *train = wrote.train;
-    *place = wrote.place;
-    wrote.code
+    tell(&write_back(table, buffer), train, place)
 }

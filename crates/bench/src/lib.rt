@@ -2,73 +2,67 @@
 // `lineengine`. Nothing else uses this crate.
 #![tactic(auto)]
 
-ghost use Rattle.std.specs.Prelude.{◌≡◌, ◌%◌, ◌<◌, ◌≤◌, ◌++◌, length, drop};
+ghost use Rattle.std.specs.Prelude.{◌≡◌, ◌%◌, ◌<◌, ◌≤◌, ◌++◌, length, sum, drop};
 ghost use Rattle.rules.specs.Line.{read};
+ghost use Rattle.rules.specs.Errors.{outcome};
 ghost use Rattle.rules.specs.Record.{checked_step};
 ghost use Rattle.rules.specs.History.{line_after};
 ghost use Rattle.rules.specs.Run.{whole_steps, step_count, answers_from, run, answered};
 ghost use Rattle.bench.specs.Sample.{sample};
 
-use rules::{FileOutcome, Line};
+use rules::{FileError, Line, StepError};
 
-// A byte as a number of 64 bits.
-fn wide(x: u8) -> u64
-    ensures value { result ≡ x }
-    ensures upper_bound { result < 256 }
+// The sum of some bytes.
+fn added(bytes: &[u8]) -> u64
+    requires { length bytes.now < 256 }
+    ensures { result ≡ sum bytes.now }
 {
-    x as u64
+    bytes.iter().map(|byte| u64::from(*byte)).sum()
 }
 
-// The code, and one field of the record at index i of each array of the line, added up.
-fn sampled(outcome: FileOutcome, i: usize) -> u64
+// One field of the record at index i of each array of the line, added up.
+fn sampled(line: &Line, i: usize) -> u64
     requires { i < 16 }
-    ensures { result ≡ sample outcome i }
+    ensures { result ≡ sample (outcome (Ok line.now)) i }
 {
-    let line = outcome.line;
-    let table = line.table;
-    let x = line.boxes[i];
-    let train = line.trains[i];
-    let s = table.segments[i];
-    let plan = table.boxes[i];
-    let start = table.trains[i];
-    wide(outcome.refusal.code)
-        + wide(x.stem)
-        + wide(train.place)
-        + wide(line.routes[i])
-        + wide(s.a)
-        + wide(plan.stem)
-        + wide(start.length)
-        + wide(table.routes[i])
+    let table = &line.table;
+    added(&[
+        line.boxes[i].stem,
+        line.trains[i].place,
+        line.routes[i],
+        table.segments[i].a,
+        table.boxes[i].stem,
+        table.trains[i].length,
+        table.routes[i],
+    ])
 }
 
-// Reads a file, and answers a sample of the outcome.
+// Reads a file, and answers its code or a sample of the line.
 #[unsafe(no_mangle)]
 pub extern "C" fn bench_read(bytes: &[u8], i: u8) -> u64
     ensures { result ≡ sample (read bytes.now) (i % 16) }
 {
-    let outcome = reading::read(bytes);
-    sampled(outcome, (i % 16) as usize)
+    match reading::read(bytes) {
+        Ok(line) => sampled(&line, usize::from(i % 16)),
+        Err(error) => u64::from(error.code()),
+    }
 }
 
 // Takes all steps from a line on, each by a call of its own on the line that the one before returned.
-fn called(start: Line, steps: &[u8], answers: &mut [u8]) -> Line
+#[tactic(auto, unfolding(rules::specs::Run::step_count))]
+fn called(mut line: Line, steps: &[u8], answers: &mut [u8]) -> Line
     requires { step_count steps.now ≤ length answers.old }
-    ensures value { result ≡ line_after checked_step start (whole_steps steps.now) }
-    ensures answers_after { answers.new ≡ answers_from checked_step start steps.now ++ drop (step_count steps.now) answers.old }
+    ensures value { result ≡ line_after checked_step line (whole_steps steps.now) }
+    ensures answers_after { answers.new ≡ answers_from checked_step line steps.now ++ drop (step_count steps.now) answers.old }
 {
-    let mut line = start;
-    let whole = steps.len() / 3;
-    let mut n: usize = 0;
-    while n < whole {
-        let at = 3 * n;
-        let done = n + 1;
-        let outcome = engine::step(line, steps[at], steps[at + 1], steps[at + 2]);
+    let (whole, partial) = steps.as_chunks::<3>();
+    for (n, &[kind, train, number]) in whole.iter().enumerate() {
+        let outcome = engine::step(line, kind, train, number);
         answers[n] = outcome.code;
-        n = done;
         line = outcome.line;
     }
-    if 3 * whole < steps.len() {
-        answers[whole] = 13;
+    if !partial.is_empty() {
+        answers[whole.len()] = StepError::Malformed.code();
     }
     line
 }
@@ -79,14 +73,13 @@ pub extern "C" fn bench_steps(file: &[u8], steps: &[u8], answers: &mut [u8]) -> 
     ensures value { result ≡ (run checked_step file.now steps.now answers.old).refusal.code }
     ensures answers_after { answers.new ≡ answered checked_step file.now steps.now answers.old }
 {
-    let outcome = reading::read(file);
-    if outcome.refusal.code != 0 {
-        return outcome.refusal.code;
-    }
+    let line = match reading::read(file) {
+        Ok(line) => line,
+        Err(error) => return error.code(),
+    };
     if answers.len() < running::count(steps.len()) {
-        return 26;
+        return FileError::NoRoom.code();
     }
-    let line = outcome.line;
     called(line, steps, answers);
     0
 }

@@ -1,50 +1,30 @@
-use Prim.Native.Nat.{◌≤◌}
-use mathlib.Core.Path.{◌∙◌, sym}
-use native.Mathlib.Omega.{arith}
-use lib.ListN.{length, set, length-set}
-use Rattle.rules.specs.Record.{checked_step}
-use Rattle.rules.specs.Run.{step_count}
-use Rattle.running.proofs.Running.{running_start, running_turn, running_room, running_line, running_whole, running_partial}
+use Rattle.std.proofs.Common.{◌≡◌, ◌/◌, ◌<◌, ◌≤◌, length, sym, arith}
+use Rattle.std.proofs.lemmas.Bool.Decides.{nat_tests}
+use Rattle.running.proofs.Running.{chunk-step, running_room, running_turn, running_line, running_whole, running_partial}
 use Rattle.bench.proofs.called.Goals as goal
-
-pub loop-n-init : goal.loop-n-init
-loop-n-init c = (omega arith, running_start checked_step _ _ _)
-
-pub bounds-answers-n : goal.bounds-answers-n
-bounds-answers-n c =
-    running_room _ c.loop-n.answers c.loop-n.invariant.0 c.loop-n-test.true
 
 pub loop-n-preserved : goal.loop-n-preserved
 loop-n-preserved c =
-    let loop = c.loop-n in
-    let room : step_count c.args.steps.now ≤ length (set loop.answers loop.n c.step-outcome.result.code) =
-    omega (arith, loop.invariant.0, length-set loop.answers loop.n c.step-outcome.result.code) in (
-      room,
-      running_turn loop.invariant.1 c.loop-n-test.true (running_room _ loop.answers loop.invariant.0 c.loop-n-test.true) (sym c.step-outcome.ensures),
-    )
+    let n : c.loop-n.n < length c.args.steps.now / 3 = omega (arith, c.as_chunks.ensures.front_len) in
+    let room = running_room c.args.steps.now c.args.answers.now c.requires n in
+    let done = rw (chunk-step c.args.steps.now _ _ c.as_chunks.ensures.front n) at c.step-outcome.ensures in
+    running_turn c.loop-n.invariant n (omega arith) (sym done)
 
-pub bounds-answers-whole : goal.bounds-answers-whole
-unfolding step_count
-bounds-answers-whole c = omega (arith, c.loop-n.invariant.0)
-
-pub shape_of-answers-then-whole-steps : goal.shape_of-answers-then-whole-steps
-shape_of-answers-then-whole-steps c = length-set c.loop-n.answers _ _ ∙ c.loop-n.invariant.1.size
-
-pub returns-then-whole-steps : goal.returns-then-whole-steps
-returns-then-whole-steps c =
-    let loop = c.loop-n in
+pub returns-then-not-is_empty : goal.returns-then-not-is_empty
+returns-then-not-is_empty c =
+    let done : length c.args.steps.now / 3 ≤ c.loop-n.n = omega (arith, c.as_chunks.ensures.front_len) in
+    let some : 0 < length c.as_chunks.result.1.now = grind (arith, nat_tests) in
     record {
-      value = running_line loop.invariant.1 c.loop-n-test.false;
-      answers_after = running_partial loop.invariant.1 c.loop-n-test.false c.if-whole-steps.true loop.invariant.0;
+      value = running_line c.loop-n.invariant done;
+      answers_after = rw (c.code.ensures, c.as_chunks.ensures.front_len)
+          (running_partial c.loop-n.invariant done (omega (arith, c.as_chunks.ensures.back_len)) (omega (arith, c.requires)));
     }
 
-pub shape_of-answers-else-whole-steps : goal.shape_of-answers-else-whole-steps
-shape_of-answers-else-whole-steps c = c.loop-n.invariant.1.size
-
-pub returns-else-whole-steps : goal.returns-else-whole-steps
-returns-else-whole-steps c =
-    let loop = c.loop-n in
+pub returns-else-not-is_empty : goal.returns-else-not-is_empty
+returns-else-not-is_empty c =
+    let done : length c.args.steps.now / 3 ≤ c.loop-n.n = omega (arith, c.as_chunks.ensures.front_len) in
+    let none : length c.as_chunks.result.1.now ≡ 0 = grind (arith, nat_tests) in
     record {
-      value = running_line loop.invariant.1 c.loop-n-test.false;
-      answers_after = running_whole loop.invariant.1 c.loop-n-test.false (omega (arith, c.if-whole-steps.false, c.loop-n-test.false));
+      value = running_line c.loop-n.invariant done;
+      answers_after = running_whole c.loop-n.invariant done (omega (arith, c.as_chunks.ensures.back_len));
     }

@@ -1,14 +1,13 @@
 -- An error's code is never 0, so that a result whose code is 0 is no error.
-use Rattle.std.specs.Prelude.{ℕ, Result, Err, ◌≡◌, ◌≢◌}
-use Rattle.std.proofs.Common.{arith, sym, ◌∙◌, ap}
-use Rattle.rules.specs.Ends.{Refusal}
+use Rattle.std.specs.Prelude.{◌≢◌}
+use Rattle.std.proofs.Common.{arith}
 use Rattle.rules.specs.declared.errors.FileError.{FileError}
 use Rattle.rules.specs.declared.errors.FileError.TheVariants.{TooShort, NoMark, UnknownVersion, BadCounts, WrongLength, BadSegment, BadBox, BadListing, Loop, BadRouteShape, NoSuchSegment, SharedStart, NoSuchTrain, NoRoom, NotFollowing, StartAgainstWay}
 use Rattle.rules.specs.declared.errors.StepError.{StepError}
 use Rattle.rules.specs.declared.errors.StepError.TheVariants as Step
 use Rattle.rules.specs.declared.errors.Denial.{Denial}
 use Rattle.rules.specs.declared.errors.Denial.TheVariants as No
-use Rattle.rules.specs.Errors.{refusal_of, refused, step_code, stopped, denial_code, answer_of}
+use Rattle.rules.specs.Errors.{refusal_of, step_code, denial_code}
 
 pub file_coded : (e : FileError) → (refusal_of e).code ≢ 0
 file_coded TooShort = λ z. omega arith
@@ -47,14 +46,3 @@ denial_coded No.SensorActive = λ z. omega arith
 denial_coded No.LockTaken = λ z. omega arith
 denial_coded No.NotBothReserved = λ z. omega arith
 denial_coded No.AgainstWay = λ z. omega arith
-
-module _ {A : Type 0} where
-  -- What refuses with an error has its code, which is not 0.
-  pub refused_code : {r : Result A FileError} {x : Refusal} {e : FileError} → r ≡ Err e → refused r ≡ x → x.code ≢ 0
-  refused_code {r} {x} {e} is says = λ z. file_coded e (ap (λ (y : Refusal). y.code) (ap refused (sym is) ∙ says) ∙ z)
-
-  pub stopped_code : {r : Result A StepError} {c : ℕ} {e : StepError} → r ≡ Err e → stopped r ≡ c → c ≢ 0
-  stopped_code {r} {c} {e} is says = λ z. step_coded e (ap stopped (sym is) ∙ says ∙ z)
-
-  pub denied_code : {r : Result A Denial} {c : ℕ} {d : Denial} → r ≡ Err d → answer_of r ≡ c → c ≢ 0
-  denied_code {r} {c} {d} is says = λ z. denial_coded d (ap answer_of (sym is) ∙ says ∙ z)

@@ -37,23 +37,9 @@ any_found f (suc n) i l h =
       | no e ↦ or_left (any_of n f) (f (suc n)) (any_found f n i (omega arith) h)
     ]
 
--- A search through records 1 .. n that has found nothing among the first i: at the start, after a turn, where it finds record
--- i + 1, and at the end.
-pub record NoneYet (n : ℕ) (f : ℕ → Bool) (i : ℕ) : Type 0 where
-  pub within : i ≤ n
-  pub none : any_of i f ≡ false
-
-pub none_start : (n : ℕ) (f : ℕ → Bool) → NoneYet n f 0
-none_start n f = record { within = omega arith; none = any_none f }
-
-pub none_turn : (n : ℕ) (f : ℕ → Bool) (i : ℕ) → NoneYet n f i → i < n → f (i + 1) ≡ false → NoneYet n f (i + 1)
-none_turn n f i h l e = record { within = omega arith; none = any_more f i h.none e }
-
+-- Where a test finds record i + 1, the test over all records finds one.
 pub none_found : (n : ℕ) (f : ℕ → Bool) (i : ℕ) → i < n → f (i + 1) ≡ true → true ≡ any_of n f
 none_found n f i l e = sym (any_found f n i l e)
-
-pub none_done : (n : ℕ) (f : ℕ → Bool) (i : ℕ) → NoneYet n f i → n ≤ i → false ≡ any_of n f
-none_done n f i h l = let e : i ≡ n = omega arith in sym (rw e at h.none)
 
 -- Where a test over all records finds nothing, no record passes it; and the other way round.
 pub any_false_at : (f : ℕ → Bool) (n s : ℕ) → any_of n f ≡ false → 1 ≤ s → s ≤ n → f s ≡ false

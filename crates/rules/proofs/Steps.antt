@@ -4,14 +4,12 @@ use mathlib.Core.Path.{◌≡◌, refl, sym, ◌∙◌, ap}
 use mathlib.Core.Logic.Iff
 use mathlib.Core.Logic.{◌⊎◌, ◌↔◌, ◌≢◌}
 use mathlib.Core.Bool.{Bool, true, false, ◌&&◌}
-use borrow.Author.Tests.{eq-eqb, ne_eqb}
 use lib.Dec.{eqb, leb}
 use Rattle.rules.specs.declared.Request.{Request}
 use Rattle.rules.specs.declared.Message.{Message}
 use Rattle.rules.specs.declared.Message.TheVariants.{Sent}
 use Rattle.rules.specs.declared.Line.{Line}
 use Rattle.rules.specs.Ends.{Effect}
-use Rattle.rules.specs.Ends.Effect.{Refused}
 use Rattle.rules.specs.declared.Outcome.{Outcome}
 use Rattle.rules.specs.Rows.{first, outside}
 use Rattle.rules.specs.Track.{plan_at}
@@ -42,15 +40,6 @@ pub step_row_iff : (k : ℕ) (s : Step) → (first (step_rows k s) ≡ 0) ↔ ((
 unfolding step_rows form_rows
 step_row_iff k s =
     simp (facts, first_zero_iff, first-none) (λ (form, (train, none)). (form, train), λ (form, train). (form, (train, refl)))
-
--- What a row stops is refused with its code.
-pub unless-stopped : (c : ℕ) (e : Effect) → c ≢ 0 → Refused c ≡ unless c e
-unfolding unless
-unless-stopped c e n = rw (ne_eqb c 0 n)
-
-pub unless_free : (c : ℕ) (e : Effect) → c ≡ 0 → e ≡ unless c e
-unfolding unless
-unless_free c e none = rw (eq-eqb c 0 none)
 
 module _ (l : Line) (s : Step) where
   -- The box that the step concerns, and what it does there.

@@ -69,5 +69,11 @@ pub fn some_train_faulty(line: &Line, columns: &Columns) -> bool
     let trains: &[Train] = &line.trains;
     // Train 17 has no record: it reads as one with a route of length 0, which is at fault.
     k > 16
-        || (1..=k).zip(trains).any(|(number, r)| train_faulty(number, *r, n, &line.routes, columns))
+        || (1..k + 1).zip(trains).any(|(number, r)| train_faulty(
+            number,
+            *r,
+            n,
+            &line.routes,
+            columns,
+        ))
 }

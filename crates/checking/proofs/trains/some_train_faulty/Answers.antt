@@ -1,16 +1,15 @@
 -- Past train 16 there is no record; up to it the chain goes through the pairs of a number and a record.
-use Rattle.std.proofs.Common.{◌≡◌, ◌∙◌, ℕ, Bool, length, rules, tests, arith, add_comm, lt-ltb}
+use Rattle.std.proofs.Common.{◌≡◌, ◌+◌, ℕ, Bool, length, refl, rules, tests, arith, add_comm, lt-ltb}
 use Rattle.std.specs.List.{range_with_len}
 use Rattle.std.proofs.lemmas.List.FromFn.{length-range_with_len, get_or-range_with_len}
-use Rattle.std.proofs.lemmas.Iterator.{YieldsList-from_slice, YieldsList-from_zip}
 use Rattle.std.proofs.lemmas.Iterator.Consumers.{YieldsList-at}
-use Rattle.std.proofs.lemmas.Iterator.Search.{any_from_yields_List}
+use Rattle.std.proofs.lemmas.Iterator.{YieldsList-from_slice, YieldsList-from_range, YieldsList-from_zip}
 use Rattle.rules.specs.declared.Train.{Train}
 use Rattle.rules.specs.Track.{track_in, way_in, point_in}
 use Rattle.rules.specs.Line.{no_train}
 use Rattle.rules.specs.Record.{train_fault, trains_fault}
 use Rattle.rules.proofs.Rows.{nth_at}
-use Rattle.checking.proofs.Laws.{many_trains, any_pair, YieldsList-from_inclusive}
+use Rattle.checking.proofs.Laws.{many_trains, any_zipped}
 use Rattle.checking.proofs.trains.some_train_faulty.Goals as goal
 
 pub returns-then-k-gt16 : goal.returns-then-k-gt16
@@ -24,9 +23,8 @@ returns-else-k-gt16 c =
     let k = line.table.k in
     let columns = c.args.columns.now in
     let trains : length line.trains ≡ 16 = search rules in
-    let numbers = YieldsList-from_inclusive {s = c.new.result} k (cc) (cc) (cc) in
-    let pairs = YieldsList-from_zip {s = c.zip.result} (YieldsList-at c.zip.ensures.first numbers) (YieldsList-from_slice line.trains cc) in
+    let numbers = YieldsList-at c.zip.ensures.first (YieldsList-from_range 1 (k + 1) k refl (omega arith)) in
+    let pairs = YieldsList-from_zip {s = c.zip.result} numbers (YieldsList-from_slice line.trains cc) in
     let fault : ℕ × Train → Bool = λ p. train_fault line.table.n (track_in columns.a columns.b) (way_in columns.ways) (point_in columns.kinds) line.routes p.0 p.1 in
-    let told = any_from_yields_List fault c.any.new.self _ c.any.result c.any.ensures.ran pairs (λ x b q h. search (rules, tests)) in
-    told ∙ any_pair fault _ (range_with_len 1 k) line.trains 0 no_train k (length-range_with_len 1 k) (omega arith)
-    (λ i h. rw (nth_at line.trains, get_or-range_with_len 1 k i 0 h, add_comm 1 i))
+    any_zipped fault c.any.new.self _ c.any.result k _ (range_with_len 1 k) line.trains 0 no_train c.any.ensures.ran pairs (λ x b q h. search (rules, tests))
+    (length-range_with_len 1 k) (omega arith) (λ i h. rw (nth_at line.trains, get_or-range_with_len 1 k i 0 h, add_comm 1 i))

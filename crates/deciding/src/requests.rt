@@ -22,7 +22,7 @@ pub(crate) fn send(c: Computer, x: SwitchBox, q: Request) -> Result<Changed, Ste
 }
 
 // Kinds 1 and 2: the same of a request that gives nothing back. Its two calls are compiled in place, which `send` is too long for: with
-// `send` alone for all four kinds a step of a run took a tenth longer.
+// `send` alone for all four kinds a step took about a tenth longer.
 #[tactic(auto, using(rules::proofs::Coded::step_coded), unfolding(rules::specs::Steps::send, rules::specs::Steps::sending, rules::specs::Steps::unless))]
 pub(crate) fn ask(c: Computer, x: SwitchBox, q: Request) -> Result<Changed, StepError>
     requires { gives_back q ≡ false }

@@ -1,5 +1,5 @@
 -- Laws of numbers in decimal, and of lines written one after the other.
-use Rattle.std.proofs.Common.{ℕ, suc, ◌+◌, ◌-◌, ◌*◌, ◌/◌, ◌^◌, ◌≤◌, ◌<◌, ◌≡◌, ◌⊎◌, inl, inr, refl, sym, Bool, true, false, cond, leb, List, [], ◌∷◌, ◌++◌, append_assoc, append-nil, length, length-append, get_or, get_or-take, take, take_all, map, flat_map, sum_by, arith, lit≤, lt-ltb, le-ltb}
+use Rattle.std.proofs.Common.{ℕ, suc, ◌+◌, ◌-◌, ◌*◌, ◌/◌, ◌^◌, ◌≤◌, ◌<◌, ◌≡◌, sym, Bool, true, false, cond, List, [], ◌∷◌, ◌++◌, append_assoc, append-nil, length, length-append, get_or, get_or-take, take, take_all, map, flat_map, sum_by, arith, lit≤, lt-ltb, le-ltb}
 use native.Mathlib.Decide.{dec_lt}
 use Rattle.std.specs.Int.{div_ceil}
 use Rattle.std.specs.Fmt.{decimal as printed}
@@ -8,28 +8,23 @@ use Rattle.std.proofs.lemmas.List.{flat_map_more, take_more}
 use Rattle.std.proofs.lemmas.List.Folds.{length-flat_map-take}
 use Rattle.std.proofs.lemmas.List.Concat.{length-flat_map}
 use Rattle.rules.specs.declared.Line.{Line}
-use Rattle.rules.specs.declared.errors.RoutePlace.{RoutePlace}
-use Rattle.rules.specs.declared.errors.FileError.{FileError}
-use Rattle.rules.specs.declared.errors.FileError.TheVariants.{TooShort, NoMark, UnknownVersion, BadCounts, WrongLength, BadSegment, BadBox, BadListing, Loop, BadRouteShape, NoSuchSegment, SharedStart, NoSuchTrain, NoRoom, NotFollowing, StartAgainstWay}
-use Rattle.rules.specs.Errors.{refusal_of}
-use Rattle.rules.specs.Placing.{tells_place}
 use Rattle.rules.specs.Rows.{join_of}
-use Rattle.rules.specs.Track.{route_at}
 use Rattle.rules.specs.Run.{step_count}
 use Rattle.rules.specs.Line.{no_box, no_train, box_at, train_at, around_on, around}
-use Rattle.rules.specs.Printout.{bytes_of, decimal_in, decimal, text_line, step_line, step_line_of, tail_of, train_line, bit, box_line, line_text, file_line}
+use Rattle.rules.specs.Printout.{decimal_in, decimal, text_line, step_line, step_line_of, tail_of, train_line, box_line, line_text}
 use Rattle.rules.proofs.Rows.{nth_at}
 use Rattle.writing.specs.declared.pen.Pen.{Pen}
 use Rattle.writing.specs.Written.{Written}
 use Rattle.writing.proofs.Laws.{written_append, written_join_none, written_join}
-use Rattle.printout.specs.Short.{Short}
+use Rattle.printout.specs.Short.{Short, train_words, box_words}
 
 -- A number in decimal is what the library prints of it.
 one_digit : (x : ℕ) → x < 10 → decimal_in 1 x ≡ printed x
 unfolding decimal_in
 one_digit x h = rw (lt-ltb x 10 h) (sym (decimal_digit x h))
 
-more_digits : (digits b : ℕ) → 10 * b ≤ 2 ^ 64 → ((x : ℕ) → x < b → decimal_in digits x ≡ printed x) → (x : ℕ) → x < 10 * b → decimal_in (suc digits) x ≡ printed x
+more_digits : (digits b : ℕ) → 10 * b ≤ 2 ^ 64 → ((x : ℕ) → x < b → decimal_in digits x ≡ printed x) → (x : ℕ) → x < 10 * b
+    → decimal_in (suc digits) x ≡ printed x
 unfolding decimal_in
 more_digits digits b room same x h =
     elim (dec_lt x 10) [
@@ -62,24 +57,30 @@ pub line_length : (w xs : List ℕ) → length (text_line (w ∷ map decimal xs)
 line_length w xs = rw line_words (simp length-append)
 
 -- The first i numbers after the word are written; one more, and the newline after all of them.
-pub number_written : (w xs : List ℕ) (i : ℕ) {p q r : Pen} → i < length xs → Written p (w ++ flat_map (λ x. 32 ∷ decimal x) (take i xs)) q → Written q (32 ∷ decimal (get_or xs i 0)) r → Written p (w ++ flat_map (λ x. 32 ∷ decimal x) (take (i + 1) xs)) r
+pub number_written : (w xs : List ℕ) (i : ℕ) {p q r : Pen} → i < length xs → Written p (w ++ flat_map (λ x. 32 ∷ decimal x) (take i xs)) q
+    → Written q (32 ∷ decimal (get_or xs i 0)) r → Written p (w ++ flat_map (λ x. 32 ∷ decimal x) (take (i + 1) xs)) r
 number_written w xs i h a b = rw (take_more xs i 0 h, ← flat_map_more) (written_append a b)
 
-pub line_written : (w xs : List ℕ) (i : ℕ) {p q r : Pen} → length xs ≤ i → Written p (w ++ flat_map (λ x. 32 ∷ decimal x) (take i xs)) q → Written q (10 ∷ []) r → Written p (text_line (w ∷ map decimal xs)) r
+pub line_written : (w xs : List ℕ) (i : ℕ) {p q r : Pen} → length xs ≤ i → Written p (w ++ flat_map (λ x. 32 ∷ decimal x) (take i xs)) q
+    → Written q (10 ∷ []) r → Written p (text_line (w ∷ map decimal xs)) r
 line_written w xs i h a b = rw line_words (written_append (rw (take_all i xs h) at a) b)
 
 -- What is written so far, and one number more, is shorter than the line.
-pub number_within : (w xs : List ℕ) (i : ℕ) → i < length xs → length (w ++ flat_map (λ x. 32 ∷ decimal x) (take i xs)) + length (decimal (get_or xs i 0)) + 1 < length (text_line (w ∷ map decimal xs))
+pub number_within : (w xs : List ℕ) (i : ℕ) → i < length xs
+    → length (w ++ flat_map (λ x. 32 ∷ decimal x) (take i xs)) + length (decimal (get_or xs i 0)) + 1
+    < length (text_line (w ∷ map decimal xs))
 number_within w xs i h = rw (line_length, length-append) (omega (arith, length-flat_map-take (λ x. 32 ∷ decimal x) xs i 0 h))
 
-pub newline_within : (w xs : List ℕ) (i : ℕ) → length xs ≤ i → length (w ++ flat_map (λ x. 32 ∷ decimal x) (take i xs)) + 1 ≡ length (text_line (w ∷ map decimal xs))
+pub newline_within : (w xs : List ℕ) (i : ℕ) → length xs ≤ i
+    → length (w ++ flat_map (λ x. 32 ∷ decimal x) (take i xs)) + 1 ≡ length (text_line (w ∷ map decimal xs))
 newline_within w xs i h = rw (line_length, length-append, take_all i xs h)
 
 -- A line of a word of at most 5 bytes and at most three bytes as numbers has at most 18 bytes, and so has that of a box.
 line_size : (w xs : List ℕ) → length (text_line (w ∷ map decimal xs)) ≡ length w + sum_by (λ x. length (32 ∷ decimal x)) xs + 1
 line_size w xs = rw (line_length, length-flat_map)
 
-pub three_fit : (w : List ℕ) (a b c : ℕ) → length w ≤ 5 → a < 256 → b < 256 → c < 256 → length (text_line (w ∷ decimal a ∷ decimal b ∷ decimal c ∷ [])) ≤ 18
+pub three_fit : (w : List ℕ) (a b c : ℕ) → length w ≤ 5 → a < 256 → b < 256 → c < 256
+    → length (text_line (w ∷ decimal a ∷ decimal b ∷ decimal c ∷ [])) ≤ 18
 three_fit w a b c h x y z =
     omega (arith, line_size w (a ∷ b ∷ c ∷ []), byte_length a x, byte_length b y, byte_length c z)
 
@@ -89,9 +90,12 @@ one_fits w a h x = omega (arith, line_size w (a ∷ []), byte_length a x)
 pub word_fits : (w : List ℕ) → length w ≤ 5 → length (text_line (w ∷ [])) ≤ 18
 word_fits w h = omega (arith, line_size w [])
 
-pub box_fits : (w : List ℕ) (a b c d : ℕ) → length w ≤ 3 → a ≤ 96 → b ≤ 1 → c < 256 → d < 256 → length (text_line (w ∷ decimal a ∷ decimal b ∷ decimal c ∷ decimal d ∷ [])) ≤ 18
+pub box_fits : (w : List ℕ) (a b c d : ℕ) → length w ≤ 3 → a ≤ 96 → b ≤ 1 → c < 256 → d < 256
+    → length (text_line (w ∷ decimal a ∷ decimal b ∷ decimal c ∷ decimal d ∷ [])) ≤ 18
 box_fits w a b c d h x y u v =
-    omega (arith, line_size w (a ∷ b ∷ c ∷ d ∷ []), short_length 2 a (omega arith) (omega arith) (omega arith), short_length 1 b (omega arith) (omega arith) (omega arith), byte_length c u, byte_length d v)
+    let number = short_length 2 a (omega arith) (omega arith) (omega arith) in
+    let sensor = short_length 1 b (omega arith) (omega arith) (omega arith) in
+    omega (arith, line_size w (a ∷ b ∷ c ∷ d ∷ []), number, sensor, byte_length c u, byte_length d v)
 
 pub short_more : {n m : ℕ} {w : List ℕ} {p q : Pen} → n ≤ m → Short n p w q → Short m p w q
 short_more h a = record { written = a.written; short = omega arith }
@@ -100,60 +104,36 @@ short_more h a = record { written = a.written; short = omega arith }
 pub short_none : (f : ℕ → List ℕ) (p : Pen) → Short (18 * 0) p (join_of 0 f) p
 short_none f p = record { written = written_join_none f p; short = omega arith }
 
-pub short_join : (f : ℕ → List ℕ) (i : ℕ) {w : List ℕ} {p q r : Pen} → Short (18 * i) p (join_of i f) q → f (i + 1) ≡ w → Short 18 q w r → Short (18 * (i + 1)) p (join_of (i + 1) f) r
+pub short_join : (f : ℕ → List ℕ) (i : ℕ) {w : List ℕ} {p q r : Pen} → Short (18 * i) p (join_of i f) q → f (i + 1) ≡ w → Short 18 q w r
+    → Short (18 * (i + 1)) p (join_of (i + 1) f) r
 short_join f i a e b = record { written = written_join f i a.written e b.written; short = omega arith }
 
 -- The line of step i + 1, train i + 1 and box i + 1.
-pub step_words : (bytes answers : List ℕ) (i : ℕ) → step_line_of bytes answers (i + 1) ≡ step_line (i + 1) (get_or bytes (3 * i) 0) (get_or bytes (3 * i + 1) 0) (get_or answers i 0)
+pub step_line_lem : (bytes answers : List ℕ) (i : ℕ)
+    → step_line_of bytes answers (i + 1) ≡ step_line (i + 1) (get_or bytes (3 * i) 0) (get_or bytes (3 * i + 1) 0) (get_or answers i 0)
 unfolding step_line_of
-step_words bytes answers i =
+step_line_lem bytes answers i =
     let kind : 3 * (i + 1) - 2 ≡ 3 * i + 1 = omega arith in
     let train : 3 * (i + 1) - 1 ≡ 3 * i + 1 + 1 = omega arith in
     rw (kind, train, nth_at bytes (3 * i), nth_at bytes (3 * i + 1), nth_at answers i)
 
-pub train_words : (l : Line) (i n : ℕ) → i < n → let r = get_or (take n l.trains) i no_train in train_line l (i + 1) ≡ text_line (bytes_of "train" ∷ decimal (i + 1) ∷ decimal (route_at l.routes (i + 1) r.place) ∷ decimal (cond (leb r.covered 1) 0 (route_at l.routes (i + 1) (r.place + 1 - r.covered))) ∷ [])
+pub train_line_lem : (l : Line) (i n : ℕ) → i < n
+    → train_line l (i + 1) ≡ train_words l.routes (i + 1) (get_or (take n l.trains) i no_train)
 unfolding train_line tail_of around around_on train_at
-train_words l i n h = rw (nth_at, get_or-take)
+train_line_lem l i n h = rw (nth_at, get_or-take)
 
-pub box_words : (l : Line) (i n : ℕ) → i < n → let x = get_or (take n l.boxes) i no_box in box_line l (i + 1) ≡ text_line (bytes_of "box" ∷ decimal (i + 1) ∷ decimal (bit x.sensor) ∷ decimal x.position ∷ decimal x.lock ∷ [])
+pub box_line_lem : (l : Line) (i n : ℕ) → i < n → box_line l (i + 1) ≡ box_words (i + 1) (get_or (take n l.boxes) i no_box)
 unfolding box_line box_at
-box_words l i n h = rw (nth_at, get_or-take)
+box_line_lem l i n h = rw (nth_at, get_or-take)
 
 pub steps_counted : (bytes : List ℕ) → div_ceil (length bytes) 3 ≡ step_count bytes
 unfolding step_count
 steps_counted bytes = omega arith
 
--- The line of a refused file, where the error is about a place of a route, and where it is not.
-pub place_words : (e : FileError) (at : RoutePlace) {c : ℕ} → (e ≡ NoSuchSegment at) ⊎ (e ≡ NotFollowing at) → c ≡ (refusal_of e).code → file_line (refusal_of e) ≡ text_line (bytes_of "file" ∷ decimal c ∷ decimal at.train ∷ decimal at.place ∷ [])
-unfolding file_line tells_place
-place_words e at (inl h) k = rw (k, h)
-place_words e at (inr h) k = rw (k, h)
-
-no_place : (e : FileError) → ((at : RoutePlace) → e ≡ NoSuchSegment at → ⊥) → ((at : RoutePlace) → e ≡ NotFollowing at → ⊥) → tells_place (refusal_of e).code ≡ false
-unfolding tells_place
-no_place TooShort a b = refl
-no_place NoMark a b = refl
-no_place UnknownVersion a b = refl
-no_place BadCounts a b = refl
-no_place WrongLength a b = refl
-no_place BadSegment a b = refl
-no_place BadBox a b = refl
-no_place BadListing a b = refl
-no_place Loop a b = refl
-no_place BadRouteShape a b = refl
-no_place (NoSuchSegment at) a b = absurd (a at refl)
-no_place SharedStart a b = refl
-no_place NoSuchTrain a b = refl
-no_place NoRoom a b = refl
-no_place (NotFollowing at) a b = absurd (b at refl)
-no_place StartAgainstWay a b = refl
-
-pub code_words : (e : FileError) {c : ℕ} → ((at : RoutePlace) → e ≡ NoSuchSegment at → ⊥) → ((at : RoutePlace) → e ≡ NotFollowing at → ⊥) → c ≡ (refusal_of e).code → file_line (refusal_of e) ≡ text_line (bytes_of "file" ∷ decimal c ∷ [])
-unfolding file_line
-code_words e a b k = rw (k, no_place e a b)
-
 -- The text of a run, without and with its last line.
-pub run_written : (l : Line) (n : ℕ) {more : Bool} {s : List ℕ} (m : List ℕ) {p q r u : Pen} → more ≡ false → (l.table.k ≤ 16) × (l.table.m ≤ 96) → Short (18 * n) p s q → Short (18 * l.table.k) q (join_of l.table.k (train_line l)) r → Short (18 * l.table.m) r (join_of l.table.m (box_line l)) u → Short (18 * (n + 113)) p (s ++ line_text l ++ cond more m []) u
+pub run_written : (l : Line) (n : ℕ) {more : Bool} {s : List ℕ} (m : List ℕ) {p q r u : Pen} → more ≡ false
+    → (l.table.k ≤ 16) × (l.table.m ≤ 96) → Short (18 * n) p s q → Short (18 * l.table.k) q (join_of l.table.k (train_line l)) r
+    → Short (18 * l.table.m) r (join_of l.table.m (box_line l)) u → Short (18 * (n + 113)) p (s ++ line_text l ++ cond more m []) u
 unfolding line_text
 run_written l n m e h a b c =
     record {
@@ -161,7 +141,10 @@ run_written l n m e h a b c =
       short = omega arith;
     }
 
-pub more_written : (l : Line) (n : ℕ) {more : Bool} {s m : List ℕ} {p q r u v : Pen} → more ≡ true → (l.table.k ≤ 16) × (l.table.m ≤ 96) → Short (18 * n) p s q → Short (18 * l.table.k) q (join_of l.table.k (train_line l)) r → Short (18 * l.table.m) r (join_of l.table.m (box_line l)) u → Short 18 u m v → Short (18 * (n + 113)) p (s ++ line_text l ++ cond more m []) v
+pub more_written : (l : Line) (n : ℕ) {more : Bool} {s m : List ℕ} {p q r u v : Pen} → more ≡ true → (l.table.k ≤ 16) × (l.table.m ≤ 96)
+    → Short (18 * n) p s q → Short (18 * l.table.k) q (join_of l.table.k (train_line l)) r
+    → Short (18 * l.table.m) r (join_of l.table.m (box_line l)) u → Short 18 u m v
+    → Short (18 * (n + 113)) p (s ++ line_text l ++ cond more m []) v
 unfolding line_text
 more_written l n e h a b c d =
     record {

@@ -1,12 +1,12 @@
 // Lines of the text, each of at most 18 bytes, and the lines of all steps, trains and boxes, one after the other.
-ghost use Rattle.std.specs.Prelude.{◌≡◌, ◌+◌, ◌-◌, ◌*◌, ◌≤◌, ◌<◌, cond, ◌∷◌, ◌++◌, [], leb, length, map, get_or};
+ghost use Rattle.std.specs.Prelude.{◌≡◌, ◌+◌, ◌*◌, ◌≤◌, ◌<◌, cond, ◌∷◌, ◌++◌, [], length, map, get_or};
 ghost use Rattle.rules.specs.Rows.{join_of};
-ghost use Rattle.rules.specs.Track.{route_at};
 ghost use Rattle.rules.specs.Errors.{refusal_of};
+ghost use Rattle.rules.specs.Placing.{tells_place};
 ghost use Rattle.rules.specs.Run.{step_count};
-ghost use Rattle.rules.specs.Printout.{bytes_of, decimal, text_line, step_line, step_line_of, train_line, bit, box_line, line_text, file_line};
+ghost use Rattle.rules.specs.Printout.{bytes_of, decimal, text_line, step_line, step_line_of, train_line, box_line, line_text, file_line};
 ghost use Rattle.writing.specs.Written.{HasRoom, Written};
-ghost use Rattle.printout.specs.Short.{Short};
+ghost use Rattle.printout.specs.Short.{Short, tail_in, train_words, box_words};
 
 use itoa::Buffer;
 use rules::{FileError, Line, SwitchBox, Train};
@@ -66,7 +66,7 @@ fn put_step_lines(steps: &[u8], answers: &[u8], pen: &mut Pen)
 
 // The tail of the train with this number, 0 where it covers its front alone.
 fn tail(routes: &[u8; 1024], number: u8, place: u8, covered: u8) -> u8
-    ensures { result ≡ cond (leb covered 1) 0 (route_at routes.now number (place + 1 - covered)) }
+    ensures { result ≡ tail_in routes.now number place covered }
 {
     if covered <= 1 {
         return 0;
@@ -79,7 +79,7 @@ fn tail(routes: &[u8; 1024], number: u8, place: u8, covered: u8) -> u8
 #[tactic(auto, using(crate::proofs::Laws::three_fit))]
 fn put_train_line(number: u8, r: &Train, routes: &[u8; 1024], pen: &mut Pen)
     requires { HasRoom pen.old 18 }
-    ensures { Short 18 pen.old (text_line (bytes_of "train" ∷ decimal number ∷ decimal (route_at routes.now number r.now.place) ∷ decimal (cond (leb r.now.covered 1) 0 (route_at routes.now number (r.now.place + 1 - r.now.covered))) ∷ [])) pen.new }
+    ensures { Short 18 pen.old (train_words routes.now number r.now) pen.new }
 {
     let front = placing::segment_at(routes, number, usize::from(r.place));
     let last = tail(routes, number, r.place, r.covered);
@@ -102,7 +102,7 @@ fn put_train_lines(l: &Line, pen: &mut Pen)
 fn put_box_line(number: u8, x: SwitchBox, pen: &mut Pen)
     requires number_bound { number ≤ 96 }
     requires room { HasRoom pen.old 18 }
-    ensures { Short 18 pen.old (text_line (bytes_of "box" ∷ decimal number ∷ decimal (bit x.sensor) ∷ decimal x.position ∷ decimal x.lock ∷ [])) pen.new }
+    ensures { Short 18 pen.old (box_words number x) pen.new }
 {
     put_line(
         b"box",
@@ -122,18 +122,28 @@ fn put_box_lines(l: &Line, pen: &mut Pen)
     }
 }
 
+// The error is about a place of a route.
+#[tactic(auto, unfolding(rules::specs::Placing::tells_place))]
+fn tells_place(error: FileError) -> bool
+    ensures { result ≡ tells_place (refusal_of error).code }
+{
+    matches!(
+        error,
+        FileError::NoSuchSegment(_) | FileError::NotFollowing(_)
+    )
+}
+
 // The line of a refused file: the code and, where it is about a place of a route, train and place.
 #[tactic(auto, using(crate::proofs::Laws::three_fit, crate::proofs::Laws::one_fits), unfolding(rules::specs::Printout::file_line))]
 pub(crate) fn put_file_line(error: FileError, pen: &mut Pen)
     requires { HasRoom pen.old 18 }
     ensures { Short 18 pen.old (file_line (refusal_of error)) pen.new }
 {
-    match error {
-        FileError::NoSuchSegment(at) | FileError::NotFollowing(at) => {
-            put_line(b"file", &[error.code(), at.train, at.place], pen);
-        }
-        _ => put_line(b"file", &[error.code()], pen),
+    if !tells_place(error) {
+        return put_line(b"file", &[error.code()], pen);
     }
+    let at = error.at();
+    put_line(b"file", &[error.code(), at.train, at.place], pen);
 }
 
 // The text of a run: the lines of all steps, the line after them, and the last line where there are more bytes.
@@ -143,7 +153,10 @@ pub(crate) fn put_run(l: &Line, steps: &[u8], answers: &[u8], more: bool, pen: &
     requires steps_bound { step_count steps.now ≤ 65535 }
     requires answered { length answers.now ≡ step_count steps.now }
     requires room { HasRoom pen.old (18 * (step_count steps.now + 113)) }
-    ensures { Short (18 * (step_count steps.now + 113)) pen.old (join_of (step_count steps.now) (step_line_of steps.now answers.now) ++ line_text l.now ++ cond more (text_line (bytes_of "more" ∷ [])) []) pen.new }
+    ensures { let count = step_count steps.now in
+        Short (18 * (count + 113)) pen.old
+        (join_of count (step_line_of steps.now answers.now) ++ line_text l.now ++ cond more (text_line (bytes_of "more" ∷ [])) [])
+        pen.new }
 {
     put_step_lines(steps, answers, pen);
     put_train_lines(l, pen);

@@ -41,11 +41,13 @@ written_append {v} {w} {p} a b =
 pub written_join_none : (f : ℕ → List ℕ) (p : Pen) → Written p (join_of 0 f) p
 written_join_none f p = rw join_none (written_none p)
 
-pub written_join : (f : ℕ → List ℕ) (i : ℕ) {w : List ℕ} {p q r : Pen} → Written p (join_of i f) q → f (i + 1) ≡ w → Written q w r → Written p (join_of (i + 1) f) r
+pub written_join : (f : ℕ → List ℕ) (i : ℕ) {w : List ℕ} {p q r : Pen} → Written p (join_of i f) q → f (i + 1) ≡ w → Written q w r
+    → Written p (join_of (i + 1) f) r
 written_join f i a e b = rw (join_more, e) (written_append a b)
 
 -- What is written at the front of a buffer is its front, and the rest stays.
-pub written_whole : {w : List ℕ} {p q : Pen} → Written p w q → p.at ≡ 0 → length w ≤ length p.buffer.now → q.buffer.now ≡ w ++ drop (length w) p.buffer.now
+pub written_whole : {w : List ℕ} {p q : Pen} → Written p w q → p.at ≡ 0 → length w ≤ length p.buffer.now
+    → q.buffer.now ≡ w ++ drop (length w) p.buffer.now
 written_whole {w} {p} {q} a z h =
     a.bytes ∙ rw z (sets-eq w p.buffer.now 0 (rw zero-add h) ∙ rw zero-add)
 
@@ -59,7 +61,8 @@ segment_size_most version = by (has_ways version)
     by false = omega arith
 
 -- The record of segment i + 1, box i + 1 and train i + 1.
-pub segment_bytes_lem : (t : Table) (i n size : ℕ) → i < n → size ≡ segment_size t.version → let s = get_or (take n t.segments) i no_segment in segment_bytes t (i + 1) ≡ take size (s.a ∷ s.b ∷ s.way ∷ [])
+pub segment_bytes_lem : (t : Table) (i n size : ℕ) → i < n → size ≡ segment_size t.version
+    → let s = get_or (take n t.segments) i no_segment in segment_bytes t (i + 1) ≡ take size (s.a ∷ s.b ∷ s.way ∷ [])
 unfolding segment_bytes segment_at segment_size
 segment_bytes_lem t i n size h e = rw (nth_at, get_or-take, e) (by (has_ways t.version) _ _ _)
   where
@@ -67,12 +70,14 @@ segment_bytes_lem t i n size h e = rw (nth_at, get_or-take, e) (by (has_ways t.v
     by true x y z = refl
     by false x y z = refl
 
-pub box_bytes_lem : (t : Table) (i n : ℕ) → i < n → let p = get_or (take n t.boxes) i no_box_plan in box_bytes t (i + 1) ≡ p.kind ∷ p.stem ∷ p.left ∷ p.right ∷ p.position ∷ []
+pub box_bytes_lem : (t : Table) (i n : ℕ) → i < n
+    → let p = get_or (take n t.boxes) i no_box_plan in box_bytes t (i + 1) ≡ p.kind ∷ p.stem ∷ p.left ∷ p.right ∷ p.position ∷ []
 unfolding box_bytes plan_at
 box_bytes_lem t i n h = rw (nth_at, get_or-take)
 
 -- The first n places of a train's route, as a part of the routes.
-route_bytes : (routes : List ℕ) (i n : ℕ) → i < 16 → n ≤ 64 → length routes ≡ 1024 → list_of n (route_at routes (i + 1)) ≡ take n (take (1024 - 64 * i) (drop (64 * i) routes))
+route_bytes : (routes : List ℕ) (i n : ℕ) → i < 16 → n ≤ 64 → length routes ≡ 1024
+    → list_of n (route_at routes (i + 1)) ≡ take n (take (1024 - 64 * i) (drop (64 * i) routes))
 route_bytes routes i n h k e =
     ext_get_or 0 _ _ (simp (list_length, length-take, length-drop) (omega arith)) λ p l.
     let below : p < n = rw list_length at l in
@@ -83,7 +88,8 @@ pub plan_bounded : (t : Table) (i n : ℕ) → Bounded t → i < n → n ≡ t.k
 unfolding train_plan_at
 plan_bounded t i n b h e = rw get_or-take (rw nth_at at (b.routes i (omega arith)))
 
-pub train_bytes_lem : (t : Table) (i n m : ℕ) → Bounded t → i < n → n ≡ t.k → length t.routes ≡ 1024 → let p = get_or (take n t.trains) i no_train_plan in m ≡ p.length
+pub train_bytes_lem : (t : Table) (i n m : ℕ) → Bounded t → i < n → n ≡ t.k → length t.routes ≡ 1024
+    → let p = get_or (take n t.trains) i no_train_plan in m ≡ p.length
     → train_bytes t (i + 1) ≡ p.direction ∷ p.length ∷ take m (take (1024 - 64 * i) (drop (64 * i) t.routes))
 unfolding train_bytes train_plan_at
 train_bytes_lem t i n m b h k e l =
@@ -103,11 +109,14 @@ join_within f i n h =
     rw (join_more, length-append) at g
 
 -- The parts make the file.
-pub encode_length : (t : Table) → length (encode t) ≡ length (head_bytes t) + length (join_of t.n (segment_bytes t)) + length (join_of t.m (box_bytes t)) + length (join_of t.k (train_bytes t))
+pub encode_length : (t : Table)
+    → length (encode t)
+    ≡ length (head_bytes t) + length (join_of t.n (segment_bytes t)) + length (join_of t.m (box_bytes t)) + length (join_of t.k (train_bytes t))
 unfolding encode
 encode_length t = simp length-append
 
-pub written_file : (t : Table) {p q r s u : Pen} → Written p (head_bytes t) q → Written q (join_of t.n (segment_bytes t)) r → Written r (join_of t.m (box_bytes t)) s → Written s (join_of t.k (train_bytes t)) u → Written p (encode t) u
+pub written_file : (t : Table) {p q r s u : Pen} → Written p (head_bytes t) q → Written q (join_of t.n (segment_bytes t)) r
+    → Written r (join_of t.m (box_bytes t)) s → Written s (join_of t.k (train_bytes t)) u → Written p (encode t) u
 unfolding encode
 written_file t w x y z = written_append (written_append (written_append w x) y) z
 
@@ -123,10 +132,12 @@ routes_length t (suc k) =
       | yes h ↦ omega (arith, sum_by_more (λ p. p.length) t.trains k no_train_plan h)
       | no h ↦
           let past : length t.trains ≤ k = omega arith in
-          rw (take_all (k + 1) t.trains (omega arith), take_all k t.trains past, get_or-eq_default t.trains no_train_plan past) (omega arith)
+          let none = get_or-eq_default t.trains no_train_plan past in
+          rw (take_all (k + 1) t.trains (omega arith), take_all k t.trains past, none) (omega arith)
     ])
 
-pub trains_length : (t : Table) (n : ℕ) → length t.trains ≡ 16 → n ≡ min t.k 16 → length (join_of t.k (train_bytes t)) ≡ 2 * t.k + sum_by (λ p. p.length) (take n t.trains)
+pub trains_length : (t : Table) (n : ℕ) → length t.trains ≡ 16 → n ≡ min t.k 16
+    → length (join_of t.k (train_bytes t)) ≡ 2 * t.k + sum_by (λ p. p.length) (take n t.trains)
 trains_length t n h e =
     rw (routes_length) (elim (dec_lt t.k 16) [
       | yes l ↦
@@ -174,6 +185,7 @@ pub buffer_kept : (t : Table) (buffer : List ℕ) {x : Refusal} → x ≡ write_
 unfolding written
 buffer_kept t buffer {x} e h = rw (ne_eqb (write_refusal t buffer).code 0 (rw e at h))
 
-pub file_written : (t : Table) {p q : Pen} → without_place 0 ≡ write_refusal t p.buffer.now → p.at ≡ 0 → length (encode t) ≤ length p.buffer.now → Written p (encode t) q → q.buffer.now ≡ written t p.buffer.now
+pub file_written : (t : Table) (buffer : List ℕ) {p q : Pen} → without_place 0 ≡ table_refusal t → length (encode t) ≤ length buffer
+    → p.at ≡ 0 → p.buffer.now ≡ buffer → Written p (encode t) q → q.buffer.now ≡ written t buffer
 unfolding written
-file_written t e z h w = rw (sym e) (written_whole w z h)
+file_written t buffer e h z b w = rw (sym (none_refused t e buffer h)) (rw b at (written_whole w z (rw b h)))

@@ -16,7 +16,7 @@ pub record Bounded (t : Table) : Type 0 where
 abbrev pub HasRoom : Pen → ℕ → Type 0
 HasRoom p n = p.at + n ≤ length p.buffer.now
 
--- The bytes w, written by the pen p, make q: the same buffer with w stored from the place of p on, as long as it was, and the place after w.
+-- The bytes w, written by the pen p, make q: the same buffer with w stored from the place of p on, and the place after them.
 pub record Written (p : Pen) (w : List ℕ) (q : Pen) : Type 0 where
   pub next : q.at ≡ p.at + length w
   pub bytes : q.buffer.now ≡ sets p.buffer.now p.at w

@@ -32,6 +32,7 @@ pub fn file_size(table: &Table) -> usize
 }
 
 // The writer: refused as the table is, then with 26; on success the file at the front of the buffer, else the buffer as it was.
+#[tactic(auto, using(rules::proofs::Coded::file_coded, crate::proofs::Laws::bounded, crate::proofs::Laws::table_refused, crate::proofs::Laws::short_refused, crate::proofs::Laws::none_refused, crate::proofs::Laws::buffer_kept, crate::proofs::Laws::file_written))]
 pub fn write(table: &Table, buffer: &mut [u8]) -> Result<(), FileError>
     ensures value { refused result ≡ write_refusal table.now buffer.old }
     ensures buffer_after { buffer.new ≡ written table.now buffer.old }

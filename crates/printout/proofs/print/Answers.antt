@@ -1,9 +1,8 @@
-use Rattle.std.proofs.Common.{◌+◌, ◌*◌, ◌∙◌, ap, inl, inr, length, length-take-le, rules, arith}
-use Rattle.rules.specs.Run.{step_count}
-use Rattle.rules.specs.Printout.{taken_of, most_steps, printout}
+use Rattle.std.proofs.Common.{◌+◌, ◌≤◌, ◌*◌, ◌∙◌, ap, inl, inr, length, length-take-le, rules, arith}
+use Rattle.rules.specs.Printout.{printout}
 use Rattle.printout.specs.Short.{Short}
 use Rattle.printout.proofs.Laws.{short_more}
-use Rattle.printout.proofs.Whole.{taken, steps_taken, most_taken, refused_short, printed, file_printed, run_printed, run_limits}
+use Rattle.printout.proofs.Whole.{count_in, taken, steps_taken, most_taken, refused_short, printed, file_printed, run_printed, run_limits}
 use Rattle.printout.proofs.print.Goals.{then-answers-count-via-then-answers-count, then-answers-count-via-else-answers-count+then-text-count, in-Err, in-Ok}
 use Rattle.printout.proofs.print.Goals as goal
 
@@ -18,10 +17,13 @@ returns-then-answers-count c =
 
 pub put_run-requires : goal.put_run-requires
 put_run-requires c =
-    let count = steps_taken c.args.input.now c.min.result c.min.ensures c.div_ceil-count.ensures in
-    let e = taken c.args.input.now c.min.result c.min.ensures in
+    let file = c.args.file.now in
+    let input = c.args.input.now in
+    let e = taken input c.min.result c.min.ensures in
+    let count = steps_taken input c.min.result c.min.ensures c.div_ceil-count.ensures in
+    let run = c.in-Ok.ensures in
     record {
-      k_bound = run_limits c.args.file.now c.args.input.now c.args.answers.now (omega arith) (rw e at c.in-Ok.ensures.value) (rw e at c.in-Ok.ensures.safe_run);
+      k_bound = run_limits file input c.args.answers.now (omega arith) (rw e at run.value) (rw e at run.safe_run);
       steps_bound = rw e (most_taken _);
       answered = rw e (length-take-le _ _ (omega arith) ∙ count);
       room = rw e (omega (arith, ap length c.new-pen.ensures.bytes));
@@ -29,19 +31,24 @@ put_run-requires c =
 
 pub returns : goal.returns
 returns c =
-    let count = steps_taken c.args.input.now c.min.result c.min.ensures c.div_ceil-count.ensures in
-    let e = taken c.args.input.now c.min.result c.min.ensures in
-    let steps = taken_of most_steps c.args.input.now in
-    let done : Short (18 * (step_count steps + 113)) c.new-pen.result (printout c.args.file.now c.args.input.now) c.match-run.pen = elim c.match-run.branch [
+    let file = c.args.file.now in
+    let input = c.args.input.now in
+    let answers = c.args.answers.now in
+    let e = taken input c.min.result c.min.ensures in
+    let count = steps_taken input c.min.result c.min.ensures c.div_ceil-count.ensures in
+    let room : count_in input ≤ length answers = omega arith in
+    let done : Short (18 * (count_in input + 113)) c.new-pen.result (printout file input) c.match-run.pen =
+    elim c.match-run.branch [
       | in-Err w ↦
-          let value = rw e at w.in-Err.ensures.value in
-          rw (file_printed c.args.file.now c.args.input.now c.args.answers.now (omega arith) _ value, w.pen-is) (short_more (omega arith) w.put_file_line.ensures)
+          let text = file_printed file input answers room _ (rw e at w.in-Err.ensures.value) in
+          rw (text, w.pen-is) (short_more (omega arith) w.put_file_line.ensures)
       | in-Ok w ↦
-          let value = rw e at w.in-Ok.ensures.value in
-          let safe = rw e at w.in-Ok.ensures.safe_run in
-          rw (run_printed c.args.file.now c.args.input.now c.args.answers.now (omega arith) value safe, w.pen-is) (rw (e, count) at w.put_run.ensures)
+          let text = run_printed file input answers room (rw e at w.in-Ok.ensures.value) (rw e at w.in-Ok.ensures.safe_run) in
+          rw (text, w.pen-is) (rw (e, count) at w.put_run.ensures)
     ] in
-    let w = printed c.args.file.now c.args.input.now c.args.answers.now c.args.text.now (omega arith) (omega arith) c.new-pen.ensures.front c.new-pen.ensures.bytes (omega arith) done (rw e at c.run.ensures.answers_after) in
+    let new = c.new-pen.ensures in
+    let after = rw e at c.run.ensures.answers_after in
+    let w = printed file input answers c.args.text.now room (omega arith) new.front new.bytes (omega arith) done after in
+    let text = w.2 in
     let same = done.written.same in
-    let after = w.2 in
-    record { code_value = w.0; length_value = w.1; text_after = search (rules, after, same); answers_after = w.3 }
+    record { code_value = w.0; length_value = w.1; text_after = search (rules, text, same); answers_after = w.3 }

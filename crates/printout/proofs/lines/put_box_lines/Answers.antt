@@ -1,5 +1,5 @@
 use Rattle.std.proofs.Common.{arith}
-use Rattle.printout.proofs.Laws.{short_none, short_join, box_words}
+use Rattle.printout.proofs.Laws.{short_none, short_join, box_line_lem}
 use Rattle.printout.proofs.lines.put_box_lines.Goals as goal
 
 pub loop-i-init : goal.loop-i-init
@@ -7,4 +7,4 @@ loop-i-init c = short_none _ _
 
 pub loop-i-preserved : goal.loop-i-preserved
 loop-i-preserved c =
-    short_join _ _ c.loop-i.invariant (box_words _ _ c.from.result (omega arith)) c.put_box_line.ensures
+    short_join _ _ c.loop-i.invariant (box_line_lem _ _ c.from.result (omega arith)) c.put_box_line.ensures

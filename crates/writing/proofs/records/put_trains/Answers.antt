@@ -31,5 +31,7 @@ put-requires-in-loop-i c =
 
 pub loop-i-preserved : goal.loop-i-preserved
 loop-i-preserved c =
-    let r = train_bytes_lem c.args.table.now _ c.from.result c.from-in-loop-i.result c.requires.bounded (omega arith) (omega arith) (search rules) (omega arith) in
+    let t = c.args.table.now in
+    let e : length t.routes ≡ 1024 = search rules in
+    let r = train_bytes_lem t c.loop-i.i c.from.result c.from-in-loop-i.result c.requires.bounded (omega arith) (omega arith) e (omega arith) in
     written_join _ _ c.loop-i.invariant r (written_append c.put.ensures c.put-in-loop-i.ensures)

@@ -18,13 +18,10 @@ pub fn read(bytes: &[u8]) -> Result<Line, FileError>
     let table = head::read_head(bytes)?;
     let columns = Columns::of(&table);
     layout::check_parts(&table, &columns)?;
-    let boxes = start::boxes(&table, &columns);
-    let trains = start::trains(table.k, &table.trains);
-    let routes = table.routes;
     Ok(Line {
+        boxes: start::boxes(&table, &columns),
+        trains: start::trains(table.k, &table.trains),
+        routes: table.routes,
         table,
-        boxes,
-        trains,
-        routes,
     })
 }

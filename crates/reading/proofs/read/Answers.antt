@@ -14,16 +14,16 @@ returns-in_err-check_parts c =
     let made = c.of-columns.ensures in
     rw (p.1, p.2) (read_late _ told.refusal told.table made.track made.way _ c.in_err-check_parts.ensures)
 
-pub boxes-boxes-requires : goal.boxes-boxes-requires
-boxes-boxes-requires c =
+pub boxes-requires : goal.boxes-requires
+boxes-requires c =
     let limits = counted _ c.in_ok-table.ensures.refusal c.in_ok-table.ensures.table in
     record { m_bound = limits.0; k_bound = limits.1 }
 
-pub trains-trains-requires : goal.trains-trains-requires
-trains-trains-requires c = (counted _ c.in_ok-table.ensures.refusal c.in_ok-table.ensures.table).1
+pub trains-requires : goal.trains-requires
+trains-requires c = (counted _ c.in_ok-table.ensures.refusal c.in_ok-table.ensures.table).1
 
 pub returns : goal.returns
 returns c =
     let told = c.in_ok-table.ensures in
     let made = c.of-columns.ensures in
-    read-accepted _ told.refusal told.table made.track made.way c.in_ok-check_parts.ensures c.boxes-boxes.ensures c.trains-trains.ensures
+    read-accepted _ told.refusal told.table made.track made.way c.in_ok-check_parts.ensures c.boxes.ensures c.trains.ensures

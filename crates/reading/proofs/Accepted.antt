@@ -41,11 +41,11 @@ module _ (bytes : List ℕ) where
           → outcome (Err e) ≡ read bytes
       read_late e is = refused_line e (refused_late bytes _ t zero_code d (parts_answer t _ made passed is))
 
-      pub read-accepted : {b : List SwitchBox} {r : List Train}
+      pub read_accepted : {b : List SwitchBox} {r : List Train}
           → without_place 0 ≡ parts_refusal t.version t.n t.m t.k track way t.boxes t.trains t.routes
           → b ≡ boxes_after t.m track t.boxes t.trains t.routes t.k → r ≡ filled 16 no_train (list_of t.k (start_train t.trains))
           → outcome (Ok (record { table = t; boxes = b; trains = r; routes = t.routes })) ≡ read bytes
       unfolding read
-      read-accepted none e f =
+      read_accepted none e f =
           let code : file_code bytes ≡ 0 = sym (code_of (refused_late bytes _ t zero_code d (parts_answer t _ made passed none)) ∙ file_coded bytes) in
           rw (code, accepted_refusal bytes code, start_line_lem t _ _ _ made e f, d)

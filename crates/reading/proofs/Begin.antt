@@ -1,5 +1,5 @@
 -- The start of a line, train after train and box after box.
-use Rattle.std.proofs.Common.{ℕ, ◌+◌, ◌-◌, ◌≤◌, ◌<◌, ◌≡◌, refl, sym, ◌∙◌, ap, true, false, cond, List, ◌++◌, add-one, arith, eq-eqb, ne_eqb, eqb, length, get_or, set, take, replicate, length-set}
+use Rattle.std.proofs.Common.{ℕ, ◌+◌, ◌-◌, ◌≤◌, ◌<◌, ◌≡◌, refl, sym, ◌∙◌, ap, true, false, cond, List, ◌++◌, add-one, arith, eq-eqb, ne_eqb, eqb, length, get_or, set, take, replicate, length-set, length-take, get_or-take}
 use Rattle.std.proofs.lemmas.Bool.{false≢true}
 use native.Mathlib.Decide.{ℕ_discrete}
 use lib.Seq.{ext_get_or, get_or-set_same, get_or-set_other, take-set-lt, set-append_left}
@@ -13,31 +13,41 @@ use Rattle.rules.specs.Rows.{nth, list_of, filled, outside}
 use Rattle.rules.specs.Track.{no_train_plan, no_box_plan, route_at, Track, track_of, far_box}
 use Rattle.rules.specs.Line.{no_box, no_train, set_holder, start_train, starts_on, start_holder, start_box_with, start_box, start_line}
 use Rattle.rules.proofs.Tests.{outside-false_iff}
-use Rattle.rules.proofs.Rows.{nth_at, list_length, list_at, list_same, filled_list_at}
+use Rattle.rules.proofs.Rows.{nth_at, fill_more, list_length, list_at, list_same, filled_list_at}
 use Rattle.reading.specs.Start.{free_box_at, boxes_after}
 
--- A train and a box by their places in the arrays of plans.
-pub start_train_lem : (trains : List TrainPlan) (i : ℕ) →
-    let p = get_or trains i no_train_plan in
-    start_train trains (i + 1)
-    ≡ record {
-      direction = p.direction;
-      length = p.length;
+-- A turn starts the train and the box at index i of the first n plans; d is what `default` makes.
+pub train_started : (plans : List TrainPlan) (n i : ℕ) (all : List Train) (d : Train) → i < length (take n plans) → n ≤ 16
+    → d.near ≡ false → d.far ≡ false → d.lock ≡ false → d.message ≡ Idle → all ≡ filled 16 no_train (list_of i (start_train plans))
+    → set all i (record {
+      direction = (get_or (take n plans) i no_train_plan).direction;
+      length = (get_or (take n plans) i no_train_plan).length;
       place = 1;
       covered = 1;
-      near = false;
-      far = false;
-      lock = false;
-      message = Idle;
-    }
+      near = d.near;
+      far = d.far;
+      lock = d.lock;
+      message = d.message;
+    }) ≡ filled 16 no_train (list_of (i + 1) (start_train plans))
 unfolding start_train
-start_train_lem trains i = rw nth_at
+train_started plans n i all d h room near far lock message before =
+    let low : i < n = omega (arith, length-take n plans) in
+    rw (near, far, lock, message, get_or-take n plans i no_train_plan low) (fill_more 16 no_train _ _ _ _ (omega arith) before (rw nth_at))
 
-pub free_box : (plans : List BoxPlan) (i : ℕ) →
-    let p = get_or plans i no_box_plan in
-    free_box_at plans (i + 1) ≡ record { sensor = false; position = p.position; lock = 0; stem = 0; left = 0; right = 0 }
+pub box_started : (plans : List BoxPlan) (n i : ℕ) (all : List SwitchBox) (d : SwitchBox) → i < length (take n plans) → n ≤ 96
+    → d.sensor ≡ false → d.lock ≡ 0 → d.stem ≡ 0 → d.left ≡ 0 → d.right ≡ 0 → all ≡ filled 96 no_box (list_of i (free_box_at plans))
+    → set all i (record {
+      sensor = d.sensor;
+      position = (get_or (take n plans) i no_box_plan).position;
+      lock = d.lock;
+      stem = d.stem;
+      left = d.left;
+      right = d.right;
+    }) ≡ filled 96 no_box (list_of (i + 1) (free_box_at plans))
 unfolding free_box_at
-free_box plans i = rw nth_at
+box_started plans n i all d h room sensor lock stem left right before =
+    let low : i < n = omega (arith, length-take n plans) in
+    rw (sensor, lock, stem, left, right, get_or-take n plans i no_box_plan low) (fill_more 96 no_box _ _ _ _ (omega arith) before (rw nth_at))
 
 -- A list of which one record changes.
 module _ {ℓ} {A : Type ℓ} where
@@ -116,7 +126,7 @@ module _ (track : Track) (plans : List BoxPlan) (trains : List TrainPlan) (route
   -- A turn over the train, where `all` are the boxes before it, s its first segment and x the box ahead: one box changes, or none
   -- where x is no box of the table.
   module _
-      (m : ℕ) (all : List SwitchBox) (s x : ℕ)
+      {m : ℕ} {all : List SwitchBox} {s x : ℕ}
       (few : m ≤ 96)
       (before : all ≡ boxes_after m track plans trains routes j)
       (first : s ≡ first_of)

@@ -12,6 +12,7 @@ use rules::{FileError, Line};
 use tablefile::head;
 
 // The reader: why a file is refused, by codes 1 to 12, 28 and 32 in their order, or the line at its start.
+#[tactic(auto, using(crate::proofs::Accepted::counted, crate::proofs::Accepted::read_early, crate::proofs::Accepted::read_late, crate::proofs::Accepted::read_accepted))]
 pub fn read(bytes: &[u8]) -> Result<Line, FileError>
     ensures { outcome result ≡ read bytes.now }
 {

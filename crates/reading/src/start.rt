@@ -9,6 +9,7 @@ use columns::Columns;
 use rules::{BoxPlan, SwitchBox, Table, Train, TrainPlan};
 
 // The trains: single on their first segments, nothing recorded, no message.
+#[tactic(auto, using(rules::proofs::Rows::fill_none, crate::proofs::Begin::train_started))]
 pub(crate) fn trains(k: u8, plans: &[TrainPlan; 16]) -> [Train; 16]
     requires { k ≤ 16 }
     ensures { result ≡ filled 16 no_train (list_of k (start_train plans.now)) }
@@ -27,6 +28,7 @@ pub(crate) fn trains(k: u8, plans: &[TrainPlan; 16]) -> [Train; 16]
 }
 
 // The boxes with their positions, all else free and passive.
+#[tactic(auto, using(rules::proofs::Rows::fill_none, crate::proofs::Begin::box_started))]
 fn free_boxes(m: u8, plans: &[BoxPlan; 96]) -> [SwitchBox; 96]
     requires { m ≤ 96 }
     ensures { result ≡ filled 96 no_box (list_of m (free_box_at plans.now)) }
@@ -42,7 +44,7 @@ fn free_boxes(m: u8, plans: &[BoxPlan; 96]) -> [SwitchBox; 96]
 }
 
 // The boxes, with the first segment of each train reserved at the box ahead of it.
-#[tactic(auto, unfolding(rules::specs::Rows::outside))]
+#[tactic(auto, using(crate::proofs::Begin::none_yet, crate::proofs::Begin::turn_here, crate::proofs::Begin::turn_nowhere), unfolding(rules::specs::Rows::outside))]
 pub(crate) fn boxes(table: &Table, columns: &Columns) -> [SwitchBox; 96]
     requires m_bound { table.now.m ≤ 96 }
     requires k_bound { table.now.k ≤ 16 }
@@ -50,12 +52,12 @@ pub(crate) fn boxes(table: &Table, columns: &Columns) -> [SwitchBox; 96]
 {
     let mut all = free_boxes(table.m, &table.boxes);
     for i in 0..table.k {
-        let plan = table.trains[usize::from(i)];
+        let plan = table.trains[i as usize];
         let number = i + 1;
         let first = placing::segment_at(&table.routes, number, 1);
         let ahead = columns.far(plan.direction, first);
         if !network::outside(table.m, ahead) {
-            let at = usize::from(ahead - 1);
+            let at = (ahead - 1) as usize;
             all[at] = switchbox::set_holder(table.boxes[at], all[at], first, number);
         }
     }

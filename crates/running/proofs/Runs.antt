@@ -33,8 +33,8 @@ module _ (file : List ℕ) where
     accepted-line = ap (λ (x : FileOutcome). x.line) is ∙ rw accepted_file refl
 
     -- On the way from that line the record check finds nothing.
-    pub read-sound : StaysSound start
-    read-sound = rw accepted-line (start_sound file accepted_file)
+    pub read_sound : StaysSound start
+    read_sound = rw accepted-line (start_sound file accepted_file)
 
 module _ (file steps buffer : List ℕ) where
   pub run_refused : (e : FileError) → outcome (Err e) ≡ read file → Ran file steps buffer (outcome (Err e)) buffer

@@ -18,7 +18,7 @@ pub fn count(bytes: usize) -> usize
 
 // Runs a table file and all its steps, three bytes each: reads the table, takes every step, and puts the codes into the lent
 // buffer.
-#[tactic(auto, unfolding(rules::specs::Run::step_count))]
+#[tactic(auto, using(crate::proofs::Runs::read_sound), unfolding(rules::specs::Run::step_count))]
 pub fn run(file: &[u8], steps: &[u8], answers: &mut [u8]) -> Result<Line, FileError>
     ensures { Ran file.now steps.now answers.old (outcome result) answers.new }
 {

@@ -71,6 +71,7 @@ impl Moving {
 
     // Takes one step, and gives its code. Each arm copies the records that it uses, and decides by its own kind: copies before the `match`,
     // or one call for all kinds as in `engine`, are slower.
+    #[tactic(auto, using(crate::proofs::Turn::unformed, crate::proofs::Turn::unknown))]
     fn take(&mut self, kind: u8, train: u8, at: u8) -> Result<u8, StepError>
         ensures { record { code = step_answer result; line = self.new } ≡ step self.old (record { kind = kind; train = train; box = at }) }
     {

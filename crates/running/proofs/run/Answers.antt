@@ -1,6 +1,6 @@
 -- By the three ends of a run.
 use Rattle.std.proofs.lemmas.Result.{err_from_is_err_and}
-use Rattle.running.proofs.Runs.{run_refused, run_short, run_done, read-sound}
+use Rattle.running.proofs.Runs.{run_refused, run_short, run_done}
 use Rattle.running.proofs.run.Goals as goal
 
 pub returns-in_err-line : goal.returns-in_err-line
@@ -10,9 +10,6 @@ returns-in_err-line c =
 
 pub returns-then-answers-count : goal.returns-then-answers-count
 returns-then-answers-count c = run_short _ _ _ c.in_ok-line.ensures c.count.ensures c.if-answers-count.true
-
-pub advance-requires-clause-stays_sound : goal.advance-requires-clause-stays_sound
-advance-requires-clause-stays_sound c = read-sound _ c.in_ok-line.ensures
 
 pub returns : goal.returns
 returns c =

@@ -1,15 +1,7 @@
 use Rattle.std.proofs.Common.{arith, refl, rules, ◌-◌}
 use Rattle.std.proofs.lemmas.Result.{err_from_is_err_and}
-use Rattle.running.proofs.Turn.{unformed, unknown, goes, train_within, ahead-within, passed-within, asked-within, answers, unanswered, enters, clears, goes_alone, refuses, answered, entered, cleared, went_alone}
+use Rattle.running.proofs.Turn.{goes, train_within, ahead-within, passed-within, asked-within, answers, unanswered, enters, clears, goes_alone, refuses, answered, entered, cleared, went_alone}
 use Rattle.running.proofs.steps.Moving.take.Goals as goal
-
-pub returns-in_err-check_form : goal.returns-in_err-check_form
-returns-in_err-check_form c =
-    let p = err_from_is_err_and c.from_residual.result c.from_residual.ensures.1 in
-    rw (p.1, p.2) (unformed _ _ _ c.in_err-check_form.ensures)
-
-pub returns-then-outside : goal.returns-then-outside
-returns-then-outside c = unknown c.self.invariant c.self.view_is _ c.in_ok-check_form.ensures c.if-outside.ensures
 
 pub index-i-requires : goal.index-i-requires
 index-i-requires c =

@@ -1,8 +1,9 @@
 -- The start of a line, train after train and box after box.
-use Rattle.std.proofs.Common.{ℕ, ◌+◌, ◌-◌, ◌≤◌, ◌<◌, ◌≡◌, refl, sym, ◌∙◌, ap, true, false, cond, List, ◌++◌, add-one, arith, eq-eqb, ne_eqb, eqb, length, get_or, set, take, replicate, length-set, length-take, get_or-take}
+use Rattle.std.proofs.Common.{ℕ, ◌+◌, ◌-◌, ◌≤◌, ◌<◌, ◌≡◌, refl, sym, ◌∙◌, ap, true, false, cond, List, ◌++◌, add-one, arith, eq-eqb, ne_eqb, eqb, length, get_or, set, take, replicate, length-set, length-take, get_or-take, get_or-set_same, get_or-set_other, ext_get_or}
 use Rattle.std.proofs.lemmas.Bool.{false≢true}
-use native.Mathlib.Decide.{ℕ_discrete}
-use lib.Seq.{ext_get_or, get_or-set_same, get_or-set_other, take-set-lt, set-append_left}
+use Rattle.std.proofs.lemmas.List.{set-append_left}
+use Rattle.std.proofs.Math.Decide.{ℕ_discrete}
+use Rattle.std.proofs.Math.Seq.{take-set-lt}
 use Rattle.rules.specs.declared.BoxPlan.{BoxPlan}
 use Rattle.rules.specs.declared.TrainPlan.{TrainPlan}
 use Rattle.rules.specs.declared.Table.{Table}

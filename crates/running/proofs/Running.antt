@@ -2,7 +2,7 @@
 use Rattle.std.proofs.Common.{ℕ, zero, suc, ◌+◌, ◌*◌, ◌/◌, ◌%◌, ◌≤◌, ◌<◌, ◌≡◌, refl, sym, ◌∙◌, ap, List, [], ◌∷◌, ◌++◌, append-nil, add-one, arith, eq-eqb, ne_eqb, length, get_or, set, take, drop, length-set, take-append-drop, take-suc-set, drop-set-lt, drop-drop, get_or-take, get_or-drop}
 use Rattle.std.proofs.lemmas.List.{set_split}
 use Rattle.std.specs.Simd.{first_chunks}
-use lib.Seq.{append_snoc}
+use Rattle.std.proofs.Math.Seq.{append_snoc}
 use Rattle.rules.specs.declared.Line.{Line}
 use Rattle.rules.specs.declared.Outcome.{Outcome}
 use Rattle.rules.specs.Steps.{Step}
@@ -38,10 +38,6 @@ pub record Running (call : Call) (l₀ : Line) (bytes before : List ℕ) (l : Li
   pub told : take n answers ++ answers_of (events call l (whole_steps (drop (3 * n) bytes))) ≡ answers_of (events call l₀ (whole_steps bytes))
   pub size : length answers ≡ length before
   pub rest : drop n answers ≡ drop n before
-
-pub running_start : (call : Call) (l : Line) (bytes before : List ℕ) → Running call l bytes before l before 0
-running_start call l bytes before =
-    record { within = omega arith; line = refl; told = refl; size = refl; rest = refl }
 
 -- A turn takes one step.
 pub running_turn : {call : Call} {l₀ l l' : Line} {bytes before answers : List ℕ} {n c : ℕ} → Running call l₀ bytes before l answers n → n < length bytes / 3

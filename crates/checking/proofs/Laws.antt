@@ -9,7 +9,7 @@ use denote.Param.Members.{Mut, Called}
 use Rattle.rules.specs.declared.errors.FileError.{FileError}
 use Rattle.rules.specs.declared.errors.StepError.{StepError}
 use Rattle.rules.specs.Ends.{Refusal}
-use Rattle.rules.specs.Errors.{refused, stopped}
+use Rattle.rules.specs.Errors.{refused, step_refused}
 use Rattle.rules.proofs.Coded.{file_coded, step_coded}
 use Rattle.rules.specs.declared.Train.{Train}
 use Rattle.rules.specs.Rows.{nth, any_of, outside}
@@ -27,9 +27,9 @@ module _ {A : Type 0} where
   refused_tested (Ok a) x e = rw (sym e) refl
   refused_tested (Err f) x e = rw (sym e, ne_eqb _ 0 (file_coded f)) refl
 
-  pub stopped_tested : (r : Result A StepError) (c : ℕ) → stopped r ≡ c → is_err r ≡ not (eqb c 0)
-  stopped_tested (Ok a) c e = rw (sym e) refl
-  stopped_tested (Err f) c e = rw (sym e, ne_eqb _ 0 (step_coded f)) refl
+  pub step_tested : (r : Result A StepError) (c : ℕ) → step_refused r ≡ c → is_err r ≡ not (eqb c 0)
+  step_tested (Ok a) c e = rw (sym e) refl
+  step_tested (Err f) c e = rw (sym e, ne_eqb _ 0 (step_coded f)) refl
 
 -- The answer of `any` over two lists side by side, in which the records of a number stand.
 pub any_zipped : {S A B C F : Type 0} {steps : S → Option A → S → Type 0} {v : A → B × C} {g : Mut F (A × Unit {0}) Bool} {s : S}

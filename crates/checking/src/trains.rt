@@ -21,7 +21,7 @@ fn answer_code(q: Request, code: u8) -> bool
 }
 
 // A request of the train with this number and record that 16 or 17 would stop.
-#[tactic(auto, using(crate::proofs::Laws::stopped_tested), unfolding(rules::specs::Record::address_fault))]
+#[tactic(auto, using(crate::proofs::Laws::step_tested), unfolding(rules::specs::Record::address_fault))]
 fn address_faulty(number: u8, r: Train, q: Request, routes: &[u8; 1024], columns: &Columns) -> bool
     ensures { result ≡ address_fault (around_in columns.now.a columns.now.b columns.now.ways columns.now.kinds routes.now number r) r q }
 {

@@ -11,7 +11,7 @@ ghost use Rattle.std.specs.Prelude.{◌≡◌, cond, eqb};
 ghost use Rattle.rules.specs.declared.Request.TheVariants.{GiveBack, Unlock};
 ghost use Rattle.rules.specs.Rows.{first};
 ghost use Rattle.rules.specs.Steps.{form_rows, concerned_box, alone, effect};
-ghost use Rattle.rules.specs.Errors.{stopped, effect_of};
+ghost use Rattle.rules.specs.Errors.{step_refused, effect_of};
 
 use rules::{BoxPlan, Changed, Request, StepError, SwitchBox};
 use traincomputer::Computer;
@@ -20,7 +20,7 @@ use traincomputer::Computer;
 // is tested first, which is quicker on random bytes than arms side by side.
 #[tactic(auto, unfolding(rules::specs::Rows::first, rules::specs::Steps::form_rows, rules::specs::Steps::formed))]
 pub fn check_form(kind: u8, at: u8) -> Result<(), StepError>
-    ensures { stopped result ≡ first (form_rows kind at) }
+    ensures { step_refused result ≡ first (form_rows kind at) }
 {
     match kind {
         1..=10 => match kind {

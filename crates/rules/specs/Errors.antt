@@ -58,9 +58,9 @@ step_code Step.NothingUnderWay = 21
 step_code Step.NotRecorded = 29
 step_code Step.RadioIdle = 30
 
-abbrev pub stopped : {A : Type 0} → Result A StepError → ℕ
-stopped (Ok a) = 0
-stopped (Err e) = step_code e
+abbrev pub step_refused : {A : Type 0} → Result A StepError → ℕ
+step_refused (Ok a) = 0
+step_refused (Err e) = step_code e
 
 -- What a step does.
 abbrev pub effect_of : Result Change StepError → Effect

@@ -8,7 +8,7 @@ ghost use Rattle.std.specs.Prelude.{◌≡◌};
 ghost use Rattle.rules.specs.Rows.{first};
 ghost use Rattle.rules.specs.Line.{request_box, message_box};
 ghost use Rattle.rules.specs.Steps.{with_message, is_open, addressed, recorded, address_rows, record_rows, request_rows, with_holding, without_holding, sending, heard, enter_rows};
-ghost use Rattle.rules.specs.Errors.{stopped};
+ghost use Rattle.rules.specs.Errors.{step_refused};
 
 use messages::{gives_back, holding_of};
 use rules::{Around, Holding, Message, Request, StepError, Train};
@@ -71,7 +71,7 @@ impl Computer {
     // Codes 16 and 17 of a request.
     #[tactic(auto, unfolding(rules::specs::Rows::first, rules::specs::Steps::address_rows, rules::specs::Steps::at_end))]
     pub fn check_address(self, q: Request) -> Result<(), StepError>
-        ensures { stopped result ≡ first (address_rows self.around self.train q) }
+        ensures { step_refused result ≡ first (address_rows self.around self.train q) }
     {
         if self.train.length <= self.train.place {
             return Err(StepError::RouteEnds);
@@ -85,7 +85,7 @@ impl Computer {
     // Codes 15 to 18 and 29 of a request.
     #[tactic(auto, using(rules::proofs::Coded::step_coded), unfolding(rules::specs::Rows::first, rules::specs::Steps::request_rows, rules::specs::Steps::address_rows))]
     pub fn check_request(self, q: Request) -> Result<(), StepError>
-        ensures { stopped result ≡ first (request_rows self.around self.train q) }
+        ensures { step_refused result ≡ first (request_rows self.around self.train q) }
     {
         if is_open(self.train.message) {
             return Err(StepError::MessageOpen);
@@ -97,7 +97,7 @@ impl Computer {
     // 18 where what is asked for is recorded already, 29 where what is given back is not recorded.
     #[tactic(auto, unfolding(rules::specs::Rows::first, rules::specs::Steps::record_rows))]
     fn check_record(self, q: Request) -> Result<(), StepError>
-        ensures { stopped result ≡ first (record_rows self.around self.train q) }
+        ensures { step_refused result ≡ first (record_rows self.around self.train q) }
     {
         match (gives_back(q), self.recorded(holding_of(q))) {
             (false, true) => Err(StepError::RecordedAlready),
@@ -109,7 +109,7 @@ impl Computer {
     // Codes 20, 16 and 19 of Enter.
     #[tactic(auto, unfolding(rules::specs::Rows::first, rules::specs::Steps::enter_rows, rules::specs::Steps::at_end))]
     pub fn check_enter(self) -> Result<(), StepError>
-        ensures { stopped result ≡ first (enter_rows self.around self.train) }
+        ensures { step_refused result ≡ first (enter_rows self.around self.train) }
     {
         if self.train.covered >= 2 {
             return Err(StepError::WrongSpan);

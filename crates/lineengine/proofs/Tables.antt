@@ -1,10 +1,9 @@
 -- A file that is written back: as it is refused, or what the writer makes of its table.
-use Rattle.std.proofs.Common.{◌≡◌, ◌≢◌, ℕ, List, [], ◌∷◌, length, refl, sym, ◌∙◌}
+use Rattle.std.proofs.Common.{◌≡◌, ◌≢◌, ℕ, List, sym, ◌∙◌}
 use borrow.Author.Tests.{ne_eqb}
-use Rattle.std.specs.Prelude.{ltb}
-use Rattle.rules.specs.Rows.{◌if◌}
 use Rattle.rules.specs.Placing.{table_code, table_refusal}
 use Rattle.rules.specs.File.{file_code, file_refusal, decode, write_refusal, written}
+use Rattle.rules.proofs.Coded.{file_coded as error_coded}
 use Rattle.rules.proofs.Refusals.{table_coded, file_coded, then_refused, then_rows}
 use Rattle.rules.proofs.Accepted.{accepted-code}
 use Rattle.rules.proofs.Files.{file_iff}
@@ -34,3 +33,6 @@ module _ (file buffer : List ℕ) where
     pub accepted_written : written_back file buffer ≡ written (decode file) buffer
     unfolding written_back written
     accepted_written = rw (accepted_back, written_back_lem file code)
+
+-- With them, that an error's code is not 0.
+pub ruleset back = (error_coded, refused_back, refused_kept, accepted_back, accepted_written)

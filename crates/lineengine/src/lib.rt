@@ -65,8 +65,7 @@ pub extern "C" fn lineengine_run(
 // The printout of a table file and an input, at the front of the lent text, its length, and the codes of the steps in the
 // answers. With code 26, where a buffer is too short, all three are as they were. A refused table prints its code, with 11 and 28 train
 // and place too.
-#[tactic(auto, unfolding(crate::specs::Print::printed_size, rules::specs::Printout::print_length),
-    using(rules::proofs::Coded::file_coded))]
+#[tactic(auto, unfolding(crate::specs::Print::printed_size, rules::specs::Printout::print_length), using(rules::proofs::Coded::file_coded))]
 #[unsafe(no_mangle)]
 pub extern "C" fn lineengine_print(
     table: &[u8],
@@ -90,8 +89,7 @@ pub extern "C" fn lineengine_print(
 }
 
 // What `lineengine_write_back` does, with the refusal as an error.
-#[tactic(auto, using(rules::proofs::Coded::file_coded, crate::proofs::Tables::refused_back, crate::proofs::Tables::refused_kept,
-    crate::proofs::Tables::accepted_back, crate::proofs::Tables::accepted_written))]
+#[tactic(auto, using(crate::proofs::Tables::back))]
 fn write_back(table: &[u8], buffer: &mut [u8]) -> Result<(), FileError>
     ensures value { refused result ≡ write_back_refusal table.now buffer.old }
     ensures buffer_after { buffer.new ≡ written_back table.now buffer.old }

@@ -8,7 +8,7 @@ use columns::Columns;
 use rules::{Line, Message, Request, Train};
 use traincomputer::{Computer, sight};
 
-// A code that a box can give in answer to a request.
+// A code that a box can give in answer to a request: a byte, since a record may hold any.
 #[tactic(auto, unfolding(rules::specs::Record::answer_code))]
 fn answer_code(q: Request, code: u8) -> bool
     ensures { result ≡ answer_code q code }

@@ -1,6 +1,7 @@
 // What a step does to its train and to the one box that it concerns, by 01's rows of codes: `traincomputer` has what the train's
 // computer decides, `switchbox` what the box does. All is passed by value: `running` and `engine` copy the train, what stands around it and
-// the box out of the line, have the step decided here, and put back what it changed.
+// the box out of the line, have the step decided here, and put back what it changed. The kind stays a byte, and a step goes by `match` over
+// it: 01 names that form.
 #![tactic(auto)]
 
 pub mod moves;

@@ -50,7 +50,10 @@ pub fn step(mut line: Line, kind: u8, train: u8, number: u8) -> Outcome
 {
     let columns = Columns::of(&line.table);
     if record_faulty(&line, &columns) {
-        return Outcome { code: 27, line };
+        return Outcome {
+            code: StepError::BadLine.code(),
+            line,
+        };
     }
     match take(&mut line, &columns, kind, train, number) {
         Ok(code) => Outcome { code, line },

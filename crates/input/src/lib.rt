@@ -15,6 +15,7 @@ pub fn fill<R: Read>(reader: &mut R, buffer: &mut [u8]) -> (usize, io::Result<()
     ensures end { OnOk result.1 (result.0 < length buffer.new → IsAtEnd (R.remaining reader.new)) }
 {
     let mut done = 0;
+    // A read gives as many bytes as it likes: no number is gone through.
     while done < buffer.len() {
         match reader.read(&mut buffer[done..]) {
             Ok(0) => return (done, Ok(())),

@@ -93,7 +93,7 @@ fn guess(n: u8, m: u8, plans: &[BoxPlan; 96], columns: &Columns) -> [u16; 256]
 }
 
 // What a pass over all segments ends in: the ranks rise along all of them, some rank was raised, or one would be higher than in
-// any line without a loop.
+// any line without a loop. Three cases, none of them a failure: neither an Option nor a Result.
 #[derive(Clone, Copy)]
 enum Pass {
     Rising,
@@ -128,6 +128,7 @@ pub fn has_loop(n: u8, m: u8, plans: &[BoxPlan; 96], columns: &Columns) -> bool
     ensures { result ≡ has_loop n (track_in columns.now.a columns.now.b) }
 {
     let mut ranks = guess(n, m, plans, columns);
+    // As many passes as it takes: no number is gone through.
     loop {
         match raise(n, columns, &mut ranks) {
             Pass::Rising => return false,

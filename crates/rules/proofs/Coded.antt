@@ -37,6 +37,7 @@ step_coded Step.RecordedAlready = λ z. omega arith
 step_coded Step.NotReserved = λ z. omega arith
 step_coded Step.WrongSpan = λ z. omega arith
 step_coded Step.NothingUnderWay = λ z. omega arith
+step_coded Step.BadLine = λ z. omega arith
 step_coded Step.NotRecorded = λ z. omega arith
 step_coded Step.RadioIdle = λ z. omega arith
 

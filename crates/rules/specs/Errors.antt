@@ -55,6 +55,7 @@ step_code Step.RecordedAlready = 18
 step_code Step.NotReserved = 19
 step_code Step.WrongSpan = 20
 step_code Step.NothingUnderWay = 21
+step_code Step.BadLine = 27
 step_code Step.NotRecorded = 29
 step_code Step.RadioIdle = 30
 

@@ -1,5 +1,5 @@
 // Why a call or a step is refused, and why a box says no. Each error has the paper's number: specs/Errors.antt gives it, docs/CODES.md
-// says what it means.
+// says what it means. `code` is the one place where it is written.
 ghost use Rattle.std.specs.Prelude.{◌≡◌};
 
 // A place on a train's route, both counted from 1.
@@ -80,6 +80,7 @@ pub enum StepError {
     NotReserved = 19,
     WrongSpan = 20,
     NothingUnderWay = 21,
+    BadLine = 27,
     NotRecorded = 29,
     RadioIdle = 30,
 }

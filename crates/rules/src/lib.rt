@@ -150,7 +150,8 @@ pub struct Outcome {
     pub line: Line,
 }
 
-// What a step does to its train and to the box that it concerns, where it is not refused: a code, and the train and the box after it.
+// What a step does to its train and to the box that it concerns, where it is not refused: a code, and the train and the box after it. The
+// code is 0, or a box's no, which changes the train.
 #[derive(Clone, Copy)]
 pub struct Changed {
     pub code: u8,

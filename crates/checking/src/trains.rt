@@ -67,7 +67,7 @@ pub fn some_train_faulty(line: &Line, columns: &Columns) -> bool
     let k = line.table.k;
     // As a slice, whose length the proof knows.
     let trains: &[Train] = &line.trains;
-    // Train 17 has no record: it reads as one with a route of length 0, which is at fault.
+    // Train 17 has no record: it reads as one with a route of length 0, which is at fault. Of what `1..=k` yields std has no lemma.
     k > 16
         || (1..k + 1).zip(trains).any(|(number, r)| train_faulty(
             number,

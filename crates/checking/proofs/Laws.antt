@@ -33,16 +33,17 @@ module _ {A : Type 0} where
 
 -- The answer of `any` over two lists side by side, in which the records of a number stand.
 pub any_zipped : {S A B C F : Type 0} {steps : S → Option A → S → Type 0} {v : A → B × C} {g : Mut F (A × Unit {0}) Bool} {s : S}
-    (test : B × C → Bool) (u : S) (f : F) (r : Bool) (n : ℕ) (p : ℕ → Bool) (xs : List B) (ys : List C) (d : B) (e : C) → ChecksAny steps g s f r u
-    → YieldsList steps v s (zip xs ys) → ((x : A) (b : Bool) (q : F) → Called g f (x, tt) b q → (q ≡ f) × (b ≡ test (v x)))
+    (test : B × C → Bool) (u : S) (f : F) (r : Bool) (n : ℕ) (p : ℕ → Bool) (xs : List B) (ys : List C) (d : B) (e : C)
+    → ChecksAny steps g s f r u → YieldsList steps v s (zip xs ys)
+    → ((x : A) (b : Bool) (q : F) → Called g f (x, tt) b q → (q ≡ f) × (b ≡ test (v x)))
     → length xs ≡ n → n ≤ length ys → ((i : ℕ) → i < n → test (get_or xs i d, get_or ys i e) ≡ p (i + 1)) → r ≡ any_of n p
 any_zipped test u f r n p xs ys d e ran yields calls size room same =
     any_numbered test u f r n p (d, e) ran yields calls (omega (arith, length-zip xs ys))
     (λ i h. rw (get_or-zip xs ys i (d, e) (omega arith) (omega arith)) (same i h))
 
 -- More trains than there are places: train 17 has no record, and reads as one with a route of length 0, which is at fault.
-pub many_trains : (n k : ℕ) (track : Track) (way : ℕ → ℕ) (point : ℕ → Bool) (routes : List ℕ) (trains : List Train) → length trains ≡ 16 → 16 < k
-    → true ≡ trains_fault n k track way point routes trains
+pub many_trains : (n k : ℕ) (track : Track) (way : ℕ → ℕ) (point : ℕ → Bool) (routes : List ℕ) (trains : List Train)
+    → length trains ≡ 16 → 16 < k → true ≡ trains_fault n k track way point routes trains
 unfolding trains_fault train_fault route_shape_fault outside
 many_trains n k track way point routes trains sized many =
     none_found k (λ i. train_fault n track way point routes i (nth trains i no_train)) 16 many

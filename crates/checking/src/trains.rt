@@ -23,7 +23,7 @@ fn answer_code(q: Request, code: u8) -> bool
 // A request of the train with this number and record that 16 or 17 would stop.
 #[tactic(auto, using(crate::proofs::Laws::step_tested), unfolding(rules::specs::Record::address_fault))]
 fn address_faulty(number: u8, r: Train, q: Request, routes: &[u8; 1024], columns: &Columns) -> bool
-    ensures { result ≡ address_fault (around_in columns.now.a columns.now.b columns.now.ways columns.now.kinds routes.now number r) r q }
+    ensures { let c = columns.now in result ≡ address_fault (around_in c.a c.b c.ways c.kinds routes.now number r) r q }
 {
     let around = sight::around(number, r, routes, columns);
     Computer { around, train: r }.check_address(q).is_err()
@@ -32,7 +32,7 @@ fn address_faulty(number: u8, r: Train, q: Request, routes: &[u8; 1024], columns
 // Code 27 on a train's message.
 #[tactic(auto, unfolding(rules::specs::Record::message_fault))]
 fn message_faulty(number: u8, r: Train, routes: &[u8; 1024], columns: &Columns) -> bool
-    ensures { result ≡ message_fault (around_in columns.now.a columns.now.b columns.now.ways columns.now.kinds routes.now number r) r r.message }
+    ensures { let c = columns.now in result ≡ message_fault (around_in c.a c.b c.ways c.kinds routes.now number r) r r.message }
 {
     match r.message {
         Message::Idle => false,
@@ -46,7 +46,8 @@ fn message_faulty(number: u8, r: Train, routes: &[u8; 1024], columns: &Columns) 
 // Code 27 at the train with this number and record, by the routes as they stand and the columns of a table with n segments.
 #[tactic(auto, using(crate::proofs::Laws::refused_tested), unfolding(rules::specs::Record::train_fault))]
 fn train_faulty(number: u8, r: Train, n: u8, routes: &[u8; 1024], columns: &Columns) -> bool
-    ensures { result ≡ train_fault n (track_in columns.now.a columns.now.b) (way_in columns.now.ways) (point_in columns.now.kinds) routes.now number r }
+    ensures { let c = columns.now in
+        result ≡ train_fault n (track_in c.a c.b) (way_in c.ways) (point_in c.kinds) routes.now number r }
 {
     placing::shape_faulty(r.direction, r.length)
         || placing::check_route(routes, number, r.direction, r.length, n, columns).is_err()
@@ -65,15 +66,12 @@ pub fn some_train_faulty(line: &Line, columns: &Columns) -> bool
 {
     let n = line.table.n;
     let k = line.table.k;
+    let routes = &line.routes;
     // As a slice, whose length the proof knows.
     let trains: &[Train] = &line.trains;
     // Train 17 has no record: it reads as one with a route of length 0, which is at fault. Of what `1..=k` yields std has no lemma.
     k > 16
-        || (1..k + 1).zip(trains).any(|(number, r)| train_faulty(
-            number,
-            *r,
-            n,
-            &line.routes,
-            columns,
-        ))
+        || (1..k + 1)
+            .zip(trains)
+            .any(|(number, r)| train_faulty(number, *r, n, routes, columns))
 }

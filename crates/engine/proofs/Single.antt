@@ -1,21 +1,20 @@
 -- A single step: what is looked up on the line and decided for it is the step of `rules`.
-use Rattle.std.proofs.Common.{◌≡◌, ◌∙◌, ℕ, Bool, true, false, not, ◌||◌, eqb, ltb, List, Result, refl, sym, ap, le-ltb, eqb-true}
+use Rattle.std.proofs.Common.{◌≡◌, ◌∙◌, ℕ, true, false, not, eqb, ltb, List, Result, sym, ap, le-ltb, eqb-true}
 use Rattle.std.specs.Prelude.{is_err}
-use Rattle.std.proofs.lemmas.Bool.{not-false}
 use Rattle.rules.specs.declared.BoxPlan.{BoxPlan}
 use Rattle.rules.specs.declared.SwitchBox.{SwitchBox}
 use Rattle.rules.specs.declared.Train.{Train}
+use Rattle.rules.specs.declared.Table.{Table}
 use Rattle.rules.specs.declared.Line.{Line}
 use Rattle.rules.specs.declared.Around.{Around}
 use Rattle.rules.specs.declared.errors.FileError.{FileError}
 use Rattle.rules.specs.Ends.{Effect}
 use Rattle.rules.specs.Errors.{refused}
 use Rattle.rules.specs.Rows.{first, outside, nth}
-use Rattle.rules.specs.Track.{Track, track_of, way_of, point_at, no_box_plan, plan_at}
+use Rattle.rules.specs.Track.{Track, track_of, way_of, no_box_plan, plan_at}
 use Rattle.rules.specs.Placing.{table_code, parts_refusal, table_refusal}
 use Rattle.rules.specs.Line.{no_box, no_train, around_train, around, box_at, train_at}
 use Rattle.rules.specs.Steps.{Step, apply, form_rows, concerned_box, effect, step}
-use Rattle.rules.specs.Record.{trains_fault, switch_boxes_fault, record_fault}
 use Rattle.rules.proofs.Refusals.{table_coded}
 use Rattle.rules.proofs.Accepted.{accepted}
 use Rattle.checking.proofs.Laws.{refused_tested}
@@ -29,10 +28,11 @@ module _ (l : Line) (s : Step) where
     unknown out = step_unknown l s ((form_row_iff _ _).0 (sym form)) (sym out)
 
     -- What is decided of the train with record r, around which v stands, at box e with plan p and state x.
-    pub decided : (a b ways kinds : List ℕ) {t r : Train} {v : Around} {e : ℕ} {q p : BoxPlan} {y x : SwitchBox} {d : Effect} → false ≡ outside l.table.k s.train
-        → around_in a b ways kinds l.routes ≡ around_train l.table l.routes → t ≡ no_train → r ≡ nth l.trains s.train t
-        → v ≡ around_in a b ways kinds l.routes s.train r → e ≡ concerned_box s.kind v r → q ≡ no_box_plan → p ≡ nth l.table.boxes e q
-        → y ≡ no_box → x ≡ nth l.boxes e y → d ≡ effect s.kind s.box v r p x → apply l s.train e d ≡ step l s
+    pub decided : (a b ways kinds : List ℕ) {t r : Train} {v : Around} {e : ℕ} {q p : BoxPlan} {y x : SwitchBox} {d : Effect}
+        → false ≡ outside l.table.k s.train → around_in a b ways kinds l.routes ≡ around_train l.table l.routes
+        → t ≡ no_train → r ≡ nth l.trains s.train t → v ≡ around_in a b ways kinds l.routes s.train r
+        → e ≡ concerned_box s.kind v r → q ≡ no_box_plan → p ≡ nth l.table.boxes e q → y ≡ no_box → x ≡ nth l.boxes e y
+        → d ≡ effect s.kind s.box v r p x → apply l s.train e d ≡ step l s
     unfolding around train_at plan_at box_at
     decided a b ways kinds {r = r} {v = v} {e = e} {p = p} {x = x} inside shown no-train train view at no-plan plan no-state state done =
         let number = (form_row_iff _ _).0 (sym form) in
@@ -43,24 +43,13 @@ module _ (l : Line) (s : Step) where
         let stands : x ≡ box_at l (box_here l s) = rw (no-state, here) at state in
         rw (here, done, planned, stands, seen, read) (step_taken l s number (sym inside))
 
--- Code 27 by its three parts, as they are looked up: r is what is found at the table.
-module _ {A : Type 0} (l : Line) {track : Track} {way : ℕ → ℕ} {point : ℕ → Bool} (r : Result A FileError)
-    (on : track ≡ track_of l.table) (ways : way ≡ way_of l.table) (points : point ≡ point_at l.table)
-    (told : refused r ≡ parts_refusal l.table.version l.table.n l.table.m l.table.k track way l.table.boxes l.table.trains l.table.routes) where
-  abbrev at_trains : Bool
-  at_trains = trains_fault l.table.n l.table.k track way point l.routes l.trains
+-- What is found at the table of a record, r, is its code; and where that is 0 there is room for its boxes.
+pub table_tested : {A : Type 0} (t : Table) (track : Track) (way : ℕ → ℕ) (r : Result A FileError) → track ≡ track_of t → way ≡ way_of t
+    → refused r ≡ parts_refusal t.version t.n t.m t.k track way t.boxes t.trains t.routes → is_err r ≡ not (eqb (table_code t) 0)
+unfolding table_refusal
+table_tested t track way r on ways told = refused_tested r _ (rw (on, ways) at told) ∙ ap (λ c. not (eqb c 0)) (table_coded t)
 
-  abbrev at_boxes : Bool
-  at_boxes = ltb 96 l.table.m || switch_boxes_fault l.table.k l.table.m l.table.boxes l.boxes
+pub boxes_roomy : (t : Table) → eqb (table_code t) 0 ≡ true → ltb 96 t.m ≡ false
+boxes_roomy t e = le-ltb 96 t.m (accepted t (eqb-true _ 0 e)).limits.boxes_high
 
-  parts : (b : Bool) → b ≡ not (eqb (table_code l.table) 0) → record_fault l ≡ (b || at_trains || at_boxes)
-  unfolding record_fault
-  parts true e = rw (← e) refl
-  parts false e =
-      let high = (accepted l.table (eqb-true _ 0 (not-false _ (sym e)))).limits.boxes_high in
-      rw (← e, le-ltb 96 l.table.m high, on, ways, points) refl
-
-  pub by_parts : record_fault l ≡ (is_err r || at_trains || at_boxes)
-  unfolding table_refusal
-  by_parts =
-      parts (is_err r) (refused_tested r _ (rw (on, ways) at told) ∙ ap (λ c. not (eqb c 0)) (table_coded l.table))
+pub ruleset record_parts = (table_tested, boxes_roomy)

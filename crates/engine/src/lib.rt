@@ -31,6 +31,7 @@ pub fn run(file: &[u8], steps: &[u8], answers: &mut [u8]) -> Result<Line, FileEr
 }
 
 // Code 27, with the columns of the line's table.
+#[tactic(auto, using(crate::proofs::Single::record_parts), unfolding(rules::specs::Record::record_fault))]
 fn record_faulty(line: &Line, columns: &Columns) -> bool
     requires track { track_in columns.now.a columns.now.b ≡ track_of line.now.table }
     requires way { way_in columns.now.ways ≡ way_of line.now.table }
@@ -89,6 +90,7 @@ fn set_nth<T: Copy>(records: &mut [T], number: u8, to: T)
 }
 
 // The step itself, 27 aside, with the columns of the line's table: 13 and 14, and what is decided by its kind.
+#[tactic(auto, using(running::proofs::Turn::unformed, crate::proofs::Single::unknown))]
 fn take(
     line: &mut Line,
     columns: &Columns,
@@ -96,7 +98,8 @@ fn take(
     train: u8,
     number: u8,
 ) -> Result<u8, StepError>
-    requires { around_in columns.now.a columns.now.b columns.now.ways columns.now.kinds line.old.routes ≡ around_train line.old.table line.old.routes }
+    requires { let c = columns.now in
+        around_in c.a c.b c.ways c.kinds line.old.routes ≡ around_train line.old.table line.old.routes }
     ensures { record { code = step_answer result; line = line.new } ≡ step line.old (record { kind = kind; train = train; box = number }) }
 {
     deciding::check_form(kind, number)?;

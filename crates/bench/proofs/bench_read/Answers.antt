@@ -12,7 +12,14 @@ use Rattle.bench.proofs.bench_read.Goals as goal
 sampled_refused : (e : FileError) (i : ℕ) → (refusal_of e).code ≡ sample (outcome (Err e)) i
 unfolding empty_line empty_table
 sampled_refused e i =
-    rw (replicate_at 96 i no_box, replicate_at 16 i no_train, replicate_at {A = ℕ} 1024 i 0, replicate_at 96 i no_segment, replicate_at 96 i no_box_plan, replicate_at 16 i no_train_plan)
+    rw (
+      replicate_at 96 i no_box,
+      replicate_at 16 i no_train,
+      replicate_at {A = ℕ} 1024 i 0,
+      replicate_at 96 i no_segment,
+      replicate_at 96 i no_box_plan,
+      replicate_at 16 i no_train_plan,
+    )
     (omega arith)
 
 pub returns-in-Err : goal.returns-in-Err

@@ -13,7 +13,10 @@ returns-in-Err c =
 pub returns-then-answers-count : goal.returns-then-answers-count
 returns-then-answers-count c =
     let end = run_short _ _ _ c.in-Ok.ensures c.count.ensures c.if-answers-count.true in
-    record { value = c.code-then-answers-count.ensures ∙ ap (λ (o : FileOutcome). o.refusal.code) end.outcome; answers_after = end.buffer }
+    record {
+      value = c.code-then-answers-count.ensures ∙ ap (λ (o : FileOutcome). o.refusal.code) end.outcome;
+      answers_after = end.buffer;
+    }
 
 pub called-requires : goal.called-requires
 unfolding step_count

@@ -25,6 +25,8 @@ returns-else-k-gt16 c =
     let trains : length line.trains ≡ 16 = search rules in
     let numbers = YieldsList-at c.zip.ensures.first (YieldsList-from_range 1 (k + 1) k refl (omega arith)) in
     let pairs = YieldsList-from_zip {s = c.zip.result} numbers (YieldsList-from_slice line.trains cc) in
-    let fault : ℕ × Train → Bool = λ p. train_fault line.table.n (track_in columns.a columns.b) (way_in columns.ways) (point_in columns.kinds) line.routes p.0 p.1 in
-    any_zipped fault c.any.new.self _ c.any.result k _ (range_with_len 1 k) line.trains 0 no_train c.any.ensures.ran pairs (λ x b q h. search (rules, tests))
-    (length-range_with_len 1 k) (omega arith) (λ i h. rw (nth_at line.trains, get_or-range_with_len 1 k i 0 h, add_comm 1 i))
+    let fault : ℕ × Train → Bool =
+    λ p. train_fault line.table.n (track_in columns.a columns.b) (way_in columns.ways) (point_in columns.kinds) line.routes p.0 p.1 in
+    any_zipped fault c.any.new.self _ c.any.result k _ (range_with_len 1 k) line.trains 0 no_train c.any.ensures.ran pairs
+    (λ x b q h. search (rules, tests)) (length-range_with_len 1 k) (omega arith)
+    (λ i h. rw (nth_at line.trains, get_or-range_with_len 1 k i 0 h, add_comm 1 i))

@@ -12,7 +12,7 @@ use itoa::Buffer;
 use rules::{FileError, Line, SwitchBox, Train};
 use writing::Pen;
 
-// A space and a number.
+// A space and a number, by `itoa`: of a `write!` no clause says that it is `Ok`.
 #[tactic(auto, using(crate::proofs::Laws::printed_decimal, writing::proofs::Laws::written_append))]
 fn put_number(x: u8, pen: &mut Pen)
     requires { HasRoom pen.old (length (decimal x) + 1) }

@@ -1,4 +1,4 @@
-// A lent buffer and the place in it up to which it is written.
+// A lent buffer and the place in it up to which it is written. Its `put` asks for room, where std's writers on a slice write less.
 ghost use Rattle.std.specs.Prelude.{◌≡◌, length};
 ghost use Rattle.writing.specs.Written.{HasRoom, Written};
 

@@ -1,2 +1,2 @@
--- Code 27 at the train and at the box at an index.
+-- Errors as tests, and chains over two lists.
 pub mod Laws

@@ -2,11 +2,11 @@
 // what 01 says ("Table S and its printout").
 #![tactic(auto)]
 
-ghost use Rattle.std.specs.Prelude.{◌≡◌, ◌≤◌, length, OnOk};
+ghost use Rattle.std.specs.Prelude.{◌≡◌, ◌≤◌, length, take, IfOk, IfSome, OnOk};
 ghost use Rattle.std.specs.Io.KnownBytes.{Appends};
 ghost use Rattle.rules.specs.Printout.{most_file, most_input, printout};
 
-use std::io::Write;
+use std::io::{Read, Write};
 use std::rt::Files;
 use std::{fs, io};
 
@@ -20,27 +20,31 @@ const MOST_STEPS: usize = 65535;
 
 const MOST_TEXT: usize = 1181664;
 
-fn file_buffer() -> [u8; MOST_FILE]
-    ensures { length result ≡ most_file }
+// Reads the front of a table file, and answers how many bytes it put at the front of the buffer.
+fn read_file<R: Read>(file: &mut R, buffer: &mut [u8; MOST_FILE]) -> io::Result<usize>
+    ensures within { IfOk result (λ size. size ≤ most_file) }
+    ensures front { IfOk result (λ size. IfSome (R.remaining file.old) (λ bytes. take size buffer.new ≡ take most_file bytes)) }
 {
-    [0; MOST_FILE]
+    let (size, ended) = input::fill(file, buffer);
+    ended?;
+    Ok(size)
 }
 
-fn input_buffer() -> [u8; MOST_INPUT]
-    ensures { length result ≡ most_input }
+// The same of the file `net`; 0 where it cannot be opened or a read fails.
+fn read_net(rt: &impl Files, buffer: &mut [u8; MOST_FILE]) -> usize
+    ensures { result ≤ most_file }
 {
-    [0; MOST_INPUT]
+    fs::open(rt, "net")
+        .and_then(|mut file| read_file(&mut file, buffer))
+        .unwrap_or(0)
 }
 
-// Reads the front of the file `net`, and answers how many bytes it put at the start of the buffer; 0 where the file cannot be opened or
-// a read fails.
-fn read_net(rt: &impl Files, buffer: &mut [u8]) -> usize
-    ensures { result ≤ length buffer.new }
+// Reads the front of the steps, and answers how many bytes it put at the front of the buffer: those before a read that fails, too.
+fn read_steps<R: Read>(input: &mut R, buffer: &mut [u8; MOST_INPUT]) -> (usize, io::Result<()>)
+    ensures within { result.0 ≤ most_input }
+    ensures front { OnOk result.1 (IfSome (R.remaining input.old) (λ bytes. take result.0 buffer.new ≡ take most_input bytes)) }
 {
-    match fs::open(rt, "net").map(|mut file| input::fill(&mut file, buffer)) {
-        Ok((size, Ok(()))) => size,
-        _ => 0,
-    }
+    input::fill(input, buffer)
 }
 
 // Writes what is printed: the buffers have room for every text. They are main's, since a proof about an array of so many zeros in the
@@ -60,11 +64,10 @@ fn write_printout<W: Write>(
 }
 
 fn main(rt: HostRuntime) -> io::Result<()> {
-    let mut net = file_buffer();
+    let mut net = [0; MOST_FILE];
     let size = read_net(&rt, &mut net);
-    let mut input = input_buffer();
-    // The steps before a read that fails are taken.
-    let (length, _) = input::fill(&mut rt.stdin(), &mut input);
+    let mut input = [0; MOST_INPUT];
+    let (length, _) = read_steps(&mut rt.stdin(), &mut input);
     let mut answers = [0; MOST_STEPS];
     let mut text = [0; MOST_TEXT];
     write_printout(

@@ -48,7 +48,8 @@ pub extern "C" fn bench_read(bytes: &[u8], i: u8) -> u64
     }
 }
 
-// Takes all steps from a line on, each by a call of its own on the line that the one before returned.
+// Takes all steps from a line on, each by a call of its own on the line that the one before returned: the loop of `running`, with
+// `engine::step` for its step, which is what is timed.
 #[tactic(auto, unfolding(rules::specs::Run::step_count))]
 fn called(mut line: Line, steps: &[u8], answers: &mut [u8]) -> Line
     requires { step_count steps.now ≤ length answers.old }

@@ -8,7 +8,7 @@ use columns::Columns;
 use rules::{Line, Message, Request, Train};
 use traincomputer::{Computer, sight};
 
-// A code that a box can give in answer to a request: a byte, since a record may hold any.
+// A code that a box can give in answer to a request: numbers, since a record may hold any byte.
 #[tactic(auto, unfolding(rules::specs::Record::answer_code))]
 fn answer_code(q: Request, code: u8) -> bool
     ensures { result ≡ answer_code q code }
@@ -20,7 +20,8 @@ fn answer_code(q: Request, code: u8) -> bool
     }
 }
 
-// A request of the train with this number and record that 16 or 17 would stop.
+// A request of the train with this number and record that 16 or 17 would stop. What stands around a train is looked up here alone, so that
+// its parts are handed down.
 #[tactic(auto, using(crate::proofs::Laws::step_tested), unfolding(rules::specs::Record::address_fault))]
 fn address_faulty(number: u8, r: Train, q: Request, routes: &[u8; 1024], columns: &Columns) -> bool
     ensures { let c = columns.now in result ≡ address_fault (around_in c.a c.b c.ways c.kinds routes.now number r) r q }

@@ -1,11 +1,7 @@
--- How a column is filled, and what stands in it.
-use Prim.Native.Nat.{ℕ, ◌+◌, ◌≤◌, ◌<◌}
-use mathlib.Core.Path.{◌≡◌, sym, ◌∙◌, ap}
-use mathlib.Core.List.{List}
-use native.Mathlib.Decide.{ℕ_discrete, dec_lt}
-use native.Mathlib.Omega.{arith}
-use lib.ListN.{length, get_or, set, replicate, length-set, length-replicate, get_or-eq_default}
-use lib.Seq.{get_or-set_same, get_or-set_other, ext_get_or}
+-- How a column is filled, and what stands in it. It is not `filled` of `rules`: there is no record 0, and the loop begins at 1.
+use Rattle.std.proofs.Common.{ℕ, ◌+◌, ◌≤◌, ◌<◌, ◌≡◌, sym, ◌∙◌, ap, List, arith, length, get_or, set, replicate, length-set, length-replicate, get_or-eq_default, get_or-set_same, get_or-set_other}
+use Rattle.std.proofs.Math.Decide.{ℕ_discrete, dec_lt}
+use Rattle.std.proofs.Math.Seq.{ext_get_or}
 use Rattle.rules.specs.Rows.{list_from}
 use Rattle.rules.proofs.Rows.{from-length, from_at, replicate_at}
 use Rattle.columns.specs.Column.{column}

@@ -8,7 +8,8 @@ ghost use Rattle.columns.specs.Column.{column, kind_of};
 use rules::{BoxPlan, Segment, Table};
 
 // The boxes at the A ends and at the B ends of segments and the ways of segments, each by the segment's number, and the kinds of boxes by
-// theirs; 0 where there is none.
+// theirs; 0 where there is none. Four columns, and no array of segments or model: the rules ask for the track, the ways and the points apart
+// (`track_in`, `way_in`, `point_in`).
 #[derive(Drop)]
 pub struct Columns {
     pub a: [u8; 256],
@@ -55,7 +56,7 @@ impl Columns {
         ends[s as usize]
     }
 
-    // The box at its near end.
+    // The box at its near end. One function for both ends would take a flag for which.
     pub fn near(&self, d: u8, s: u8) -> u8
         ensures { result ≡ near_box (track_in self.now.a self.now.b) d s }
     {

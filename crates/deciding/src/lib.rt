@@ -32,7 +32,8 @@ pub fn check_form(kind: u8, at: u8) -> Result<(), StepError>
     }
 }
 
-// The box that a step concerns: for kind 3 the box of the message, for 5 the box ahead, for 6 the box passed; else 0.
+// The box that a step concerns: for kind 3 the box of the message, for 5 the box ahead, for 6 the box passed; else 0, as `concerned_box`
+// has it.
 #[tactic(auto, unfolding(rules::specs::Steps::concerned_box))]
 pub fn concerned(kind: u8, c: Computer) -> u8
     ensures { result ≡ concerned_box kind c.around c.train }
@@ -45,7 +46,7 @@ pub fn concerned(kind: u8, c: Computer) -> u8
     }
 }
 
-// The request of kind 7 or 8.
+// The request of kind 7 or 8, which share one call of `send`: with a call for each a step takes longer.
 fn returned(kind: u8, at: u8) -> Request
     ensures { result ≡ cond (eqb kind 7) (GiveBack at) (Unlock at) }
 {
@@ -70,7 +71,8 @@ pub fn alone(kind: u8, at: u8, c: Computer, x: SwitchBox) -> Result<Changed, Ste
     }
 }
 
-// A step by its kind: of the train with this computer, at the box that it concerns. Which kinds have no box byte is `check_form`'s affair.
+// A step by its kind: of the train with this computer, at the box that it concerns, whose plan and record stand apart, since most kinds
+// ask for neither. Which kinds have no box byte is `check_form`'s affair.
 #[tactic(auto, unfolding(rules::specs::Steps::effect))]
 pub fn decide(kind: u8, at: u8, c: Computer, p: BoxPlan, x: SwitchBox) -> Result<Changed, StepError>
     ensures { effect_of result ≡ effect kind at c.around c.train p x }

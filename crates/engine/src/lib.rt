@@ -43,8 +43,8 @@ fn record_faulty(line: &Line, columns: &Columns) -> bool
         || some_box_record_faulty(line)
 }
 
-// A single step on any line record: 27 first, then 13, 14 and the rows of the step's kind. With 13 to 21, 27, 29 and 30 the line is as it
-// was.
+// A single step on any line record, in the three bytes that 01 has for it: 27 first, then 13, 14 and the rows of the step's kind. With 13 to 21,
+// 27, 29 and 30 the line is as it was.
 #[tactic(auto, unfolding(rules::specs::Record::checked_step))]
 pub fn step(mut line: Line, kind: u8, train: u8, number: u8) -> Outcome
     ensures { result ≡ checked_step line (record { kind = kind; train = train; box = number }) }

@@ -52,7 +52,7 @@ fn some_way_unheld(version: u16, n: u8, ways: &[u8; 256]) -> bool
     !has_ways(version) && some_one_way(n, ways)
 }
 
-// Codes 3 and 4: the version, and the numbers of segments, boxes and trains.
+// Codes 3 and 4: the version, and the numbers of segments, boxes and trains; as numbers, since a file's head is no table yet.
 #[tactic(auto, unfolding(rules::specs::Network::head_rows, rules::specs::Network::limits_fault, rules::specs::Rows::first, rules::specs::Rows::outside))]
 pub fn check_head(version: u16, n: u8, m: u8, k: u8) -> Result<(), FileError>
     ensures { refused result ≡ without_place (first (head_rows version n m k)) }

@@ -12,7 +12,7 @@ ghost use Rattle.loops.specs.Ranks.{Low, Reached, Ended};
 use columns::Columns;
 use rules::BoxPlan;
 
-// Boxes by number, in an order that is still read while it grows.
+// Boxes by number, in an order that is still read while it grows. One method is all that it needs of the kit's `ArrayVec`.
 #[derive(Drop)]
 struct Order {
     boxes: [u8; 96],

@@ -52,6 +52,7 @@ fn segment_faulty(m: u8, s: u8, columns: &Columns) -> bool
 fn some_segment_faulty(n: u8, m: u8, columns: &Columns) -> bool
     ensures { result ≡ any_of n (segment_fault m (track_in columns.now.a columns.now.b) (way_in columns.now.ways)) }
 {
+    // Over `1..=n` `any` takes more than twice as long.
     (0..n).any(|i| segment_faulty(m, i + 1, columns))
 }
 
@@ -61,7 +62,7 @@ pub fn position_fits(p: BoxPlan, x: u8) -> bool
     ensures { result ≡ position_fits p x }
 {
     if p.kind == 2 {
-        x == 1 || x == 2
+        matches!(x, 1 | 2)
     } else {
         x == 0
     }

@@ -23,7 +23,7 @@ fn stem_side(number: u8, s: u8, columns: &Columns) -> StemSide
     }
 }
 
-// The stem sides of boxes 1 .. m, each worked out once.
+// The stem sides of boxes 1 .. m, each worked out once. By index here and below: a box's number, its plan and its side go by it.
 #[tactic(auto, using(rules::proofs::Rows::fill_none, rules::proofs::Rows::fill_more, crate::proofs::Sides::side_at))]
 pub(crate) fn stem_sides(m: u8, plans: &[BoxPlan; 96], columns: &Columns) -> [StemSide; 96]
     requires { m ≤ 96 }

@@ -31,7 +31,7 @@ fn some_shape_faulty(k: u8, trains: &[TrainPlan]) -> bool
             .any(|p| shape_faulty(p.direction, p.length))
 }
 
-// The segment at place p, counted from 1, of the route of the train with this number; 0 where there is none.
+// The segment at place p, counted from 1, of the route of the train with this number; 0 where there is none, as `route_at` has it.
 pub fn segment_at(routes: &[u8; 1024], number: u8, p: usize) -> u8
     ensures { result ≡ route_at routes.now number p }
 {
@@ -87,7 +87,8 @@ fn check_places(
     Ok(())
 }
 
-// Codes 11 and 28 on a train's route of direction d and length r: the first place at fault.
+// Codes 11 and 28 on a train's route of direction d and length r: the first place at fault. They are numbers, since `checking` asks it of a
+// train's record, and `check_routes` of its plan.
 pub fn check_route(
     routes: &[u8; 1024],
     train: u8,
@@ -112,7 +113,8 @@ pub fn check_route(
     }
 }
 
-// Codes 11 and 28 in one search through the routes of all trains: the first place at fault.
+// Codes 11 and 28 in one search through the routes of all trains: the first place at fault. Numbers are an index and 1 here and below: of a
+// `for` over a `zip` with a range the proof of a turn stayed open.
 fn check_routes(table: &Table, columns: &Columns) -> Result<(), FileError>
     requires { table.now.k ≤ 16 }
     ensures { let t = table.now in
@@ -133,7 +135,8 @@ fn check_routes(table: &Table, columns: &Columns) -> Result<(), FileError>
     Ok(())
 }
 
-// Code 12: two trains begin with one segment. The segments with which trains before begin are marked.
+// Code 12: two trains begin with one segment. The segments with which trains before begin are marked: `any` over a closure that marks is no
+// plainer than the `for`.
 fn some_start_shared(k: u8, routes: &[u8; 1024]) -> bool
     ensures { result ≡ any_of k (start_fault routes.now) }
 {

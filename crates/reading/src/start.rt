@@ -8,7 +8,8 @@ ghost use Rattle.reading.specs.Start.{free_box_at, boxes_after};
 use columns::Columns;
 use rules::{BoxPlan, SwitchBox, Table, Train, TrainPlan};
 
-// The trains: single on their first segments, nothing recorded, no message.
+// The trains: single on their first segments, nothing recorded, no message. Trains and boxes have a loop each, and `rules` has no From for
+// them: it is the start of this plan, and one function for both would take a closure and two types for three lines.
 #[tactic(auto, using(rules::proofs::Rows::fill_none, crate::proofs::Begin::train_started))]
 pub(crate) fn trains(k: u8, plans: &[TrainPlan; 16]) -> [Train; 16]
     requires { k ≤ 16 }
@@ -43,7 +44,7 @@ fn free_boxes(m: u8, plans: &[BoxPlan; 96]) -> [SwitchBox; 96]
     all
 }
 
-// The boxes, with the first segment of each train reserved at the box ahead of it.
+// The boxes, with the first segment of each train reserved at the box ahead of it. By index: a train's number, plan and route go by it.
 #[tactic(auto, using(crate::proofs::Begin::none_yet, crate::proofs::Begin::turn_here, crate::proofs::Begin::turn_nowhere), unfolding(rules::specs::Rows::outside))]
 pub(crate) fn boxes(table: &Table, columns: &Columns) -> [SwitchBox; 96]
     requires m_bound { table.now.m ≤ 96 }

@@ -1,9 +1,10 @@
 // Why a call or a step is refused, and why a box says no. Each error has the paper's number: specs/Errors.antt gives it, docs/CODES.md
-// says what it means. `code` is the one place where it is written.
+// says what it means. They have a method for it each, and no trait and no From: `e.code()` says which number of an error it is, and nothing
+// is generic over errors.
 ghost use Rattle.std.specs.Prelude.{◌≡◌};
 
 // A place on a train's route, both counted from 1.
-#[derive(Clone, Copy, PartialEq, Eq)]
+#[derive(Clone, Copy, Default, PartialEq, Eq)]
 pub struct RoutePlace {
     pub train: u8,
     pub place: u8,
@@ -56,14 +57,15 @@ impl FileError {
         }
     }
 
-    // Where on a route it is, for the two errors that are about a place; else train 0 and place 0.
+    // Where on a route it is, for the two errors that are about a place; else train 0 and place 0, which is what a refusal tells in numbers
+    // (`refusal_of`), and so no Option.
     pub fn at(self) -> RoutePlace
         ensures train { result.train ≡ (refusal_of self).train }
         ensures place { result.place ≡ (refusal_of self).place }
     {
         match self {
             FileError::NoSuchSegment(at) | FileError::NotFollowing(at) => at,
-            _ => RoutePlace { train: 0, place: 0 },
+            _ => RoutePlace::default(),
         }
     }
 }

@@ -46,8 +46,8 @@ pub struct TrainPlan {
     pub length: u8,
 }
 
-// The table as read, which no step changes. The routes have 64 places a train.
-#[derive(Clone, Copy)]
+// The table as read, which no step changes. The routes have 64 places a train, in one flat array: 01 names that form.
+#[derive(Clone, Copy, Default)]
 pub struct Table {
     pub version: u16,
     pub n: u8,
@@ -115,7 +115,7 @@ pub struct Train {
 }
 
 // A line: the table as read, and the boxes, trains and routes as they stand.
-#[derive(Clone, Copy)]
+#[derive(Clone, Copy, Default)]
 pub struct Line {
     pub table: Table,
     pub boxes: [SwitchBox; 96],
@@ -126,7 +126,7 @@ pub struct Line {
 // What stands around a train: its number; the segments at its front, next after it, at its tail and next after the tail (the
 // front again where two are covered); whether the train runs against the way of next; the box ahead of the front and whether it is a
 // point; the boxes at the near and the far end of next; and the box between the tail and the segment after it, which is passed when the
-// tail is cleared.
+// tail is cleared. 0 where there is none, as `around_on` has it.
 #[derive(Clone, Copy, Default)]
 pub struct Around {
     pub number: u8,
@@ -151,7 +151,7 @@ pub struct Outcome {
 }
 
 // What a step does to its train and to the box that it concerns, where it is not refused: a code, and the train and the box after it. The
-// code is 0, or a box's no, which changes the train.
+// code is 0, a box's no, which changes the train, or what a train hears, any byte that its message holds.
 #[derive(Clone, Copy)]
 pub struct Changed {
     pub code: u8,

@@ -44,7 +44,7 @@ fn index<const N: u8>(number: u8) -> usize
     usize::from(number - 1)
 }
 
-// What stands around each train, by its index.
+// What stands around each train, by its index. A zip with the trains' numbers would be no plainer.
 fn views(line: &Line, columns: &Columns) -> [Around; 16]
     ensures { Seen (around_in columns.now.a columns.now.b columns.now.ways columns.now.kinds line.now.routes) line.now.trains result 16 }
 {

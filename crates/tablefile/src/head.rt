@@ -8,7 +8,7 @@ ghost use Rattle.tablefile.specs.Whole.{early_code};
 use crate::reader;
 use rules::{FileError, Table};
 
-// The numbers of a file's head.
+// The numbers of a file's head. Whoever asks for them has asked for 8 bytes in `read_head`.
 #[derive(Clone, Copy)]
 pub(crate) struct Head {
     pub(crate) version: u16,

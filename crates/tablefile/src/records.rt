@@ -1,4 +1,5 @@
-// The records of a file, by its bytes and the place at which they begin. Places of the arrays beyond them are 0.
+// The records of a file, by its bytes and the place at which they begin. Places of the arrays beyond them are 0. Each loop goes by the index
+// of a record, which its place follows from: records of segments have two bytes or three, and those of trains are as long as their routes.
 #![tactic(auto, using(crate::proofs::Parts::records), unfolding(crate::specs::Whole::segments_of, crate::specs::Whole::boxes_of, crate::specs::Whole::trains_of, crate::specs::Whole::routes_of))]
 
 ghost use Rattle.std.specs.Prelude.{◌≡◌, ◌+◌, ◌*◌, ◌≤◌, ◌<◌, ◌^◌, eqb, length};

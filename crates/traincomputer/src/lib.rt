@@ -13,7 +13,7 @@ ghost use Rattle.rules.specs.Errors.{step_refused};
 use messages::{gives_back, holding_of};
 use rules::{Around, Holding, Message, Request, StepError, Train};
 
-// The box of a message, 0 where there is none.
+// The box of a message, 0 where there is none, as `concerned_box` has it.
 #[tactic(auto, unfolding(rules::specs::Line::message_box))]
 pub fn message_box(message: Message) -> u8
     ensures { result ≡ message_box message }
@@ -136,7 +136,8 @@ impl Computer {
         with_message(train, Message::Sent(q))
     }
 
-    // The train after it has heard an answer: a yes to what it asked for is recorded, and the message is gone.
+    // The train after it has heard an answer: a yes, 0, to what it asked for is recorded, and the message is gone. The code is a byte, since a
+    // message of a record may hold any.
     #[tactic(auto, unfolding(rules::specs::Steps::heard))]
     pub fn heard(self, q: Request, code: u8) -> Train
         ensures { result ≡ heard self.around self.train q code }

@@ -1,6 +1,7 @@
 -- How a column is filled, and what stands in it. It is not `filled` of `rules`: there is no record 0, and the loop begins at 1.
-use Rattle.std.proofs.Common.{ℕ, ◌+◌, ◌≤◌, ◌<◌, ◌≡◌, sym, ◌∙◌, ap, List, arith, length, get_or, set, replicate, length-set, length-replicate, get_or-eq_default, get_or-set_same, get_or-set_other}
+use Rattle.std.proofs.Common.{ℕ, ◌+◌, ◌≤◌, ◌<◌, ◌≡◌, sym, ◌∙◌, ap, List, arith, length, get_or, set, replicate, length-set, get_or-set_same, get_or-set_other}
 use Rattle.std.proofs.Math.Decide.{ℕ_discrete, dec_lt}
+use Rattle.std.proofs.Math.ListN.{length-replicate, get_or-eq_default}
 use Rattle.std.proofs.Math.Seq.{ext_get_or}
 use Rattle.rules.specs.Rows.{list_from}
 use Rattle.rules.proofs.Rows.{from-length, from_at, replicate_at}

@@ -56,13 +56,8 @@ pub fn step(mut line: Line, kind: u8, train: u8, number: u8) -> Outcome
             line,
         };
     }
-    match take(&mut line, &columns, kind, train, number) {
-        Ok(code) => Outcome { code, line },
-        Err(error) => Outcome {
-            code: error.code(),
-            line,
-        },
-    }
+    let code = take(&mut line, &columns, kind, train, number).unwrap_or_else(StepError::code);
+    Outcome { code, line }
 }
 
 // The record with this number, counted from 1, or `none`.

@@ -59,12 +59,12 @@ fn put_write(rt: &impl Print, table: &Table, buffer: &mut [u8]) -> io::Result<()
 // The routes of the trains 0 to k + 1; of a file of 60 bytes or more only those of the trains 1 and k + 1.
 fn put_routes(rt: &impl Print, file: &[u8], k: u8) -> io::Result<()> {
     let last = k.wrapping_add(1);
-    for train in 0..last {
-        if file.len() < 60 || train == 1 {
+    for train in 0..=last {
+        if file.len() < 60 || train == 1 || train == last {
             put_route(rt, file, train)?;
         }
     }
-    put_route(rt, file, last)
+    Ok(())
 }
 
 // A train's refusal and route.

@@ -3,7 +3,6 @@
 use crate::changes::altered;
 use crate::numbers::Numbers;
 use crate::text::{Hex, Told};
-use rules::{BoxPlan, Line, Segment, SwitchBox, Table, Train, TrainPlan};
 use std::io;
 
 // Room for the answers to each list of steps of a corpus.
@@ -44,30 +43,11 @@ pub(crate) fn put_made_up(
     made: &[u8],
 ) -> io::Result<()> {
     let ran = engine::run(file, steps, &mut [UNUSED; ROOM]);
-    let start = ran.unwrap_or_else(|_| empty_line());
+    let start = ran.unwrap_or_default();
     let (line, [kind, train, more]) = match made {
         [_, changes @ .., kind, train, more] => (altered(start, changes), [*kind, *train, *more]),
         _ => (start, [0; 3]),
     };
     let outcome = engine::step(line, kind, train, more);
     println!(rt; "{} {}", outcome.code, Numbers(&outcome.line))
-}
-
-// The line with nothing in it.
-fn empty_line() -> Line {
-    Line {
-        table: Table {
-            version: 0,
-            n: 0,
-            m: 0,
-            k: 0,
-            segments: [Segment::default(); 96],
-            boxes: [BoxPlan::default(); 96],
-            trains: [TrainPlan::default(); 16],
-            routes: [0; 1024],
-        },
-        boxes: [SwitchBox::default(); 96],
-        trains: [Train::default(); 16],
-        routes: [0; 1024],
-    }
 }

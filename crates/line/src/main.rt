@@ -47,9 +47,22 @@ fn read_steps<R: Read>(input: &mut R, buffer: &mut [u8; MOST_INPUT]) -> (usize, 
     input::fill(input, buffer)
 }
 
-// Writes what is printed: the buffers have room for every text. They are main's, since a proof about an array of so many zeros in the
-// function itself did not end.
+// Puts what is printed at the front of the text's buffer, which has room for every text, and answers its length. The buffers are main's,
+// since a proof about an array of so many zeros in the function itself did not end.
 #[tactic(auto, using(crate::proofs::Room::room))]
+fn put_text(
+    net: &[u8],
+    input: &[u8],
+    answers: &mut [u8; MOST_STEPS],
+    text: &mut [u8; MOST_TEXT],
+) -> usize
+    ensures prefix_len { result ≤ length text.new }
+    ensures text_after { take result text.new ≡ printout net.now input.now }
+{
+    printout::print(net, input, answers, text).unwrap()
+}
+
+// Writes what is printed.
 fn write_printout<W: Write>(
     out: &mut W,
     net: &[u8],
@@ -59,7 +72,7 @@ fn write_printout<W: Write>(
 ) -> io::Result<()>
     ensures { OnOk result (Appends (W.contents out.old) (W.contents out.new) (printout net.now input.now)) }
 {
-    let length = printout::print(net, input, answers, text).unwrap();
+    let length = put_text(net, input, answers, text);
     out.write_all(&text[..length])
 }
 

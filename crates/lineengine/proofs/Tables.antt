@@ -1,8 +1,9 @@
 -- A file that is written back: as it is refused, or what the writer makes of its table.
-use Rattle.std.proofs.Common.{◌≡◌, ◌≢◌, ℕ, List, sym, ◌∙◌}
-use borrow.Author.Tests.{ne_eqb}
+use Rattle.std.proofs.Common.{◌≡◌, ◌≢◌, ℕ, List, [], ◌∷◌, length, ltb, refl, sym, ◌∙◌, ne_eqb}
+use Rattle.rules.specs.declared.Table.{Table}
+use Rattle.rules.specs.Rows.{◌if◌}
 use Rattle.rules.specs.Placing.{table_code, table_refusal}
-use Rattle.rules.specs.File.{file_code, file_refusal, decode, write_refusal, written}
+use Rattle.rules.specs.File.{file_code, file_refusal, decode, encode, write_refusal, written}
 use Rattle.rules.proofs.Coded.{file_coded as error_coded}
 use Rattle.rules.proofs.Refusals.{table_coded, file_coded, then_refused, then_rows}
 use Rattle.rules.proofs.Accepted.{accepted-code}
@@ -24,15 +25,23 @@ module _ (file buffer : List ℕ) where
     code : file_code file ≡ 0
     code = sym (file_coded file) ∙ z
 
+    -- Of a table with code 0 whose file this is, the writer answers as writing the file back does.
+    writer_back : (t : Table) → table_code t ≡ 0 → encode t ≡ file
+        → (write_refusal t buffer ≡ write_back_refusal file buffer) × (written t buffer ≡ written_back file buffer)
+    unfolding write_refusal written write_back_refusal written_back
+    writer_back t sound same =
+        let by-table = then_rows (table_refusal t) (26 if ltb (length buffer) (length file) ∷ []) (table_coded t ∙ sound) in
+        let by-file = then_rows (file_refusal file) (26 if ltb (length buffer) (length file) ∷ []) z in
+        rw (same, by-table, by-file) (refl, refl)
+
+    back_here : (write_refusal (decode file) buffer ≡ write_back_refusal file buffer) × (written (decode file) buffer ≡ written_back file buffer)
+    back_here = writer_back (decode file) (accepted-code _ ((file_iff file).0 code).table) (written_back_lem file code)
+
     pub accepted_back : write_back_refusal file buffer ≡ write_refusal (decode file) buffer
-    unfolding write_back_refusal write_refusal
-    accepted_back =
-        let sound : table_code (decode file) ≡ 0 = accepted-code _ ((file_iff file).0 code).table in
-        rw (written_back_lem file code, then_rows (file_refusal file) _ z, then_rows (table_refusal (decode file)) _ (table_coded (decode file) ∙ sound))
+    accepted_back = sym back_here.0
 
     pub accepted_written : written_back file buffer ≡ written (decode file) buffer
-    unfolding written_back written
-    accepted_written = rw (accepted_back, written_back_lem file code)
+    accepted_written = sym back_here.1
 
 -- With them, that an error's code is not 0.
 pub ruleset back = (error_coded, refused_back, refused_kept, accepted_back, accepted_written)

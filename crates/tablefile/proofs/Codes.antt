@@ -1,6 +1,5 @@
 -- Codes 1 to 5 by the tests that lead to them, the file's codes after them, and what a file without them has.
-use Rattle.std.proofs.Common.{ℕ, ◌≤◌, ◌<◌, ◌≡◌, ◌≢◌, refl, sym, ◌∙◌, ap, true, false, not, List, [], ◌∷◌, ◌++◌, eqb, length, arith}
-use borrow.Author.Tests.{le-ltb}
+use Rattle.std.proofs.Common.{ℕ, ◌≤◌, ◌<◌, ◌≡◌, ◌≢◌, refl, sym, ◌∙◌, ap, true, false, not, List, [], ◌∷◌, ◌++◌, eqb, length, arith, le-ltb}
 use Rattle.rules.specs.Ends.{Refusal}
 use Rattle.rules.specs.Rows.{Row, ◌if◌, first}
 use Rattle.rules.specs.Network.{head_rows, limits_fault}

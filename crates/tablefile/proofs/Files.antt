@@ -1,7 +1,6 @@
 -- Why a file is refused, and the routes of its trains.
-use Rattle.std.proofs.Common.{ℕ, ◌≡◌, ◌≢◌, sym, ◌∙◌, ap, true, false, List}
+use Rattle.std.proofs.Common.{ℕ, ◌≡◌, ◌≢◌, sym, ◌∙◌, ap, true, false, List, eq-eqb}
 use Rattle.std.proofs.Math.Decide.{ℕ_discrete}
-use borrow.Author.Tests.{eq-eqb}
 use Rattle.rules.specs.declared.Table.{Table}
 use Rattle.rules.specs.Ends.{Refusal}
 use Rattle.rules.specs.Rows.{outside}

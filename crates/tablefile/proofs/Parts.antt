@@ -23,6 +23,10 @@ size_high v = by (has_ways v)
     by true = omega arith
     by false = omega arith
 
+-- So many of them as a byte counts are within 765 bytes.
+sizes_near : (v n : ℕ) → n < 2 ^ 8 → (segment_size v ≤ 3) × (n * segment_size v ≤ 765)
+sizes_near v n low = (size_high v, let most = mul-le-mul_left n (size_high v) in omega arith)
+
 module _ (bytes : List ℕ) where
   -- Where the records begin, by the numbers of the head and the sizes of the records.
   segment_at : (i : ℕ) → segment_start bytes (i + 1) ≡ 8 + segment_size (version_in bytes) * i

@@ -1,5 +1,5 @@
 -- Laws of bytes written one after the other, of the lengths of a file's parts, and of what a table of code 0 has.
-use Rattle.std.proofs.Common.{ℕ, zero, suc, ◌+◌, ◌-◌, ◌*◌, ◌≤◌, ◌<◌, ◌≡◌, ◌≢◌, refl, sym, ◌∙◌, Bool, true, false, cond, List, [], ◌∷◌, ◌++◌, append_assoc, length, get_or, take, drop, length-append, length-take, length-drop, get_or-take, get_or-drop, ext_get_or, sum_by, take_all, min, drop-drop, add-zero, zero-add, add-suc, add-one, arith, ltb, lt-ltb, le-ltb, ne_eqb}
+use Rattle.std.proofs.Common.{ℕ, zero, suc, ◌+◌, ◌-◌, ◌*◌, ◌≤◌, ◌<◌, ◌≡◌, ◌≢◌, refl, sym, ap, ◌∙◌, Bool, true, false, cond, List, [], ◌∷◌, ◌++◌, append_assoc, length, get_or, take, drop, length-append, length-take, length-drop, get_or-take, get_or-drop, ext_get_or, sum_by, take_all, min, drop-drop, add-zero, zero-add, add-suc, add-one, arith, ltb, lt-ltb, le-ltb, ne_eqb}
 use Rattle.std.proofs.Math.ListN.{get_or-eq_default}
 use Rattle.std.proofs.lemmas.List.Sums.{sum_by_more}
 use native.Mathlib.Decide.{dec_lt}
@@ -16,7 +16,7 @@ use Rattle.rules.proofs.Accepted.{accepted}
 use Rattle.rules.proofs.Refusals.{code_of, table_coded, then_refused, then_hit, then_none}
 use Rattle.rules.proofs.Rows.{nth_at, list_length, list_at, route_at_lem, join_none, join_more, sets_append}
 use Rattle.writing.specs.declared.pen.Pen.{Pen}
-use Rattle.writing.specs.Written.{Bounded, Written}
+use Rattle.writing.specs.Written.{Bounded, HasRoom, Written}
 
 -- A part of a buffer that has become the bytes w: they are stored from its beginning on.
 pub stored : (d : List ℕ) {o w : List ℕ} (at : ℕ) → o ≡ w → at + length w ≤ length d → put_mid at (at + length w - at) d o ≡ sets d at w
@@ -107,6 +107,11 @@ join_within f i n h =
     let e : i + 1 + (n - (i + 1)) ≡ n = omega arith in
     let g : length (join_of (i + 1) f) ≤ length (join_of n f) = rw e at (join_grows f (i + 1) (n - (i + 1))) in
     rw (join_more, length-append) at g
+
+-- One list more, of a function that writes where there is room for it: there is, where there is room for the first n of them.
+pub put_join : (f : ℕ → List ℕ) (i n : ℕ) {w : List ℕ} {p q r : Pen} → i < n → HasRoom p (length (join_of n f)) → Written p (join_of i f) q
+    → f (i + 1) ≡ w → (HasRoom q (length w) → Written q w r) → Written p (join_of (i + 1) f) r
+put_join f i n h room a e b = written_join f i a e (b (omega (arith, a, room, join_within f i n h, ap length e)))
 
 -- The parts make the file.
 pub encode_length : (t : Table)

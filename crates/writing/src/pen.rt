@@ -1,5 +1,5 @@
-// A lent buffer and the place in it up to which it is written. Its `put` asks for room, where std's writers on a slice write less.
-ghost use Rattle.std.specs.Prelude.{◌≡◌, length};
+// A lent buffer and the place in it up to which it is written. `put` writes all bytes or none, where std's writers on a slice write some.
+ghost use Rattle.std.specs.Prelude.{◌≡◌, ◌+◌, ◌<◌, length};
 ghost use Rattle.writing.specs.Written.{HasRoom, Written};
 
 #[derive(Drop)]
@@ -18,13 +18,15 @@ impl<'a> Pen<'a> {
         Pen { buffer, at: 0 }
     }
 
-    // Bytes after those that are written.
+    // Bytes after those that are written; where there is no room for all of them, none.
     pub fn put(&mut self, bytes: &[u8])
-        requires { HasRoom self.old (length bytes.now) }
-        ensures { Written self.old bytes.now self.new }
+        ensures written { HasRoom self.old (length bytes.now) → Written self.old bytes.now self.new }
+        ensures kept { length self.old.buffer.now < self.old.at + length bytes.now → self.new ≡ self.old }
     {
-        let end = self.at + bytes.len();
-        self.buffer[self.at..end].copy_from_slice(bytes);
-        self.at = end;
+        let end = self.at.saturating_add(bytes.len());
+        if end <= self.buffer.len() {
+            self.buffer[self.at..end].copy_from_slice(bytes);
+            self.at = end;
+        }
     }
 }

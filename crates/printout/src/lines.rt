@@ -35,7 +35,8 @@ fn put_line(word: &[u8], numbers: &[u8], pen: &mut Pen)
     pen.put(b"\n");
 }
 
-// The line of step i + 1, whose code this is. Of a last step of one or two bytes, a missing byte is 0.
+// The line of step i + 1, whose code this is. Of a last step of one or two bytes, a missing byte is 0: by the bytes' places, as `step_line_of`
+// has it.
 #[tactic(auto, using(crate::proofs::Laws::three_fit, crate::proofs::Laws::printed_decimal), unfolding(rules::specs::Printout::step_line))]
 fn put_step_line(steps: &[u8], i: usize, code: u8, pen: &mut Pen)
     requires i_bound { i < 65535 }
@@ -86,7 +87,7 @@ fn put_train_line(number: u8, r: &Train, routes: &[u8; 1024], pen: &mut Pen)
     put_line(b"train", &[number, front, last], pen);
 }
 
-// The lines of all trains.
+// The lines of all trains; their numbers, and those of boxes, are an index and 1: a zip with a range would be no plainer.
 fn put_train_lines(l: &Line, pen: &mut Pen)
     requires k_bound { l.now.table.k ≤ 16 }
     requires room { HasRoom pen.old (18 * l.now.table.k) }

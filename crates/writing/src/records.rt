@@ -18,7 +18,7 @@ fn put_head(table: &Table, pen: &mut Pen)
     pen.put(&[table.n, table.m, table.k]);
 }
 
-// The segment records.
+// The segment records. Each kind of record asks for `Bounded`, which `write` has of `check_table`: the four take one table, once.
 fn put_segments(table: &Table, pen: &mut Pen)
     requires bounded { Bounded table.now }
     requires room { HasRoom pen.old (length (join_of table.now.n (segment_bytes table.now))) }

@@ -1,3 +1,4 @@
+-- What answers share is two facts or three: a lemma over them would have as many arguments as they have.
 use Rattle.std.proofs.Common.{rules}
 use Rattle.rules.specs.Line.{put_train, put_box}
 use Rattle.rules.specs.Steps.{apply}

@@ -1,3 +1,4 @@
+-- What answers share is two facts or three: a lemma over them would have as many arguments as they have.
 use Rattle.std.proofs.Common.{arith, rules, ◌*◌}
 use Rattle.placing.proofs.Routes.{route_read, searched_start, searched_jump, searched_turn}
 use Rattle.placing.proofs.check_places.Goals as goal

@@ -1,3 +1,4 @@
+-- What answers share is two facts or three: a lemma over them would have as many arguments as they have.
 use Rattle.std.proofs.Common.{◌+◌, ◌≤◌, ◌*◌, ◌∙◌, ap, inl, inr, length, length-take-le, rules, arith}
 use Rattle.rules.specs.Printout.{printout}
 use Rattle.printout.specs.Short.{Short}

@@ -1,3 +1,4 @@
+-- What answers share is two facts or three: a lemma over them would have as many arguments as they have.
 use Rattle.std.proofs.Common.{◌≡◌, length, length-take, length-drop, arith, rules}
 use Rattle.writing.proofs.Laws.{written_append, written_join_none, put_join, train_bytes_lem, plan_bounded}
 use Rattle.writing.proofs.records.put_trains.Goals as goal

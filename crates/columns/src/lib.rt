@@ -20,6 +20,7 @@ pub struct Columns {
 
 impl Columns {
     // The columns of a table.
+    #[tactic(auto, using(crate::proofs::Tracks::filled))]
     pub fn of(table: &Table) -> Columns
         ensures a { result.a ≡ column (far_box (track_of table.now) 1) }
         ensures b { result.b ≡ column (far_box (track_of table.now) 0) }
@@ -49,6 +50,7 @@ impl Columns {
     }
 
     // The box at the far end of segment s in direction d.
+    #[tactic(auto, unfolding(rules::specs::Track::far_box))]
     pub fn far(&self, d: u8, s: u8) -> u8
         ensures { result ≡ far_box (track_in self.now.a self.now.b) d s }
     {
@@ -57,6 +59,7 @@ impl Columns {
     }
 
     // The box at its near end. One function for both ends would take a flag for which.
+    #[tactic(auto, unfolding(rules::specs::Track::near_box))]
     pub fn near(&self, d: u8, s: u8) -> u8
         ensures { result ≡ near_box (track_in self.now.a self.now.b) d s }
     {

@@ -146,3 +146,6 @@ module _ (n : ℕ) (track : Track) (before after : List ℕ) (pass : Pass) (h : 
   pub raised_less : n < 256 → pass ≡ Raised → 89856 - sum after < 89856 - sum before
   unfolding told
   raised_less byte e = let k = rw e at h.tells in omega (arith, reached_sum n track after byte h.reached)
+
+-- What `has_loop` takes from its passes: their start, and what the end of one says.
+pub ruleset passes = (low_reached, rising_none, high_some, raised_less)

@@ -124,6 +124,7 @@ fn raise(n: u8, columns: &Columns, ranks: &mut [u16; 256]) -> Pass
 }
 
 // Code 9: some list of segments closes a loop.
+#[tactic(auto, using(crate::proofs::Rising::passes))]
 pub fn has_loop(n: u8, m: u8, plans: &[BoxPlan; 96], columns: &Columns) -> bool
     ensures { result ≡ has_loop n (track_in columns.now.a columns.now.b) }
 {

@@ -1,6 +1,6 @@
 -- Laws of the whole text, of the bytes that are taken, and of the buffers' test.
 use Rattle.std.proofs.Common.{ℕ, ◌+◌, ◌*◌, ◌≤◌, ◌<◌, ◌≡◌, ◌≢◌, ◌⊎◌, inl, inr, refl, sym, ◌∙◌, ap, Bool, true, false, cond, ◌||◌, ltb, List, [], ◌∷◌, ◌++◌, Ok, Err, length, length-take, length-take-le, take, take_all, take_at, drop, drop_of_length-le, drop-cons, min, arith, lt-ltb, le-ltb, ne_eqb}
-use native.Mathlib.Decide.{ℕ_discrete, dec_lt}
+use Rattle.std.proofs.Math.Decide.{ℕ_discrete, dec_lt}
 use Rattle.std.specs.Int.{div_ceil}
 use Rattle.rules.specs.Ends.{FileOutcome}
 use Rattle.rules.specs.declared.Line.{Line}

@@ -1,6 +1,10 @@
 -- Code 8 at the boxes by their stem sides: where codes 6 and 7 find nothing, it is found by `sided_fault` exactly where `box_fault` has it.
-use Rattle.std.proofs.Common.{◌≡◌, ◌≢◌, ℕ, ◌+◌, ◌≤◌, Bool, true, false, not, cond, ◌&&◌, ◌||◌, List, eqb, get_or, refl, sym, ◌∙◌, arith, ne_eqb}
+use Rattle.std.proofs.Common.{◌≡◌, ◌≢◌, ℕ, ◌+◌, ◌≤◌, ◌<◌, Bool, true, false, not, cond, ◌&&◌, ◌||◌, List, length, take, eqb, get_or, get_or-take, length-take-le, zero-add, refl, sym, ◌∙◌, arith, ne_eqb}
+use Rattle.std.specs.List.{zip, enumerate_from}
+use Rattle.std.proofs.lemmas.Slice.Zip.{length-zip, get_or-zip}
+use Rattle.std.proofs.lemmas.List.FromFn.{get_or-enumerate_from}
 use Rattle.std.proofs.lemmas.Bool.{eqb-false}
+use Rattle.std.proofs.lemmas.List.{length-take}
 use Rattle.rules.specs.declared.BoxPlan.{BoxPlan}
 use Rattle.rules.specs.declared.StemSide.{StemSide}
 use Rattle.rules.specs.declared.StemSide.TheVariants.{AEnd, BEnd, Neither}
@@ -99,13 +103,29 @@ module _ (n m : ℕ) (track : Track) (none : any_of n (ends_fault m track) ≡ f
       rw (kept, filled_record (stem_side_at track plans) Neither 96 m b few l h)
       (box_by_side b (nth plans b no_box_plan) (any_false_at (plan_fault_at n plans) m b fine l h))
 
--- The box at index i is that of number i + 1: its side by its plan, and what is found at it.
+-- The box at index i is that of number i + 1: its side by its plan among the first n, and what is found at it.
 module _ (track : Track) (plans : List BoxPlan) (i : ℕ) where
-  pub side_at : (x : StemSide) → x ≡ stem_side track (i + 1) (get_or plans i no_box_plan).stem → x ≡ stem_side_at track plans (i + 1)
+  pub side_at : (n : ℕ) (x : StemSide) → i < length (take n plans) → x ≡ stem_side track (i + 1) (get_or (take n plans) i no_box_plan).stem
+      → x ≡ stem_side_at track plans (i + 1)
   unfolding stem_side_at
-  side_at x e = rw nth_at e
+  side_at n x h e = rw nth_at (e ∙ rw (get_or-take n plans i no_box_plan (omega (arith, length-take n plans))))
 
-  pub sided_at : (sides : List StemSide) (r : Bool)
-      → r ≡ sided_fault track (i + 1) (get_or plans i no_box_plan) (get_or sides i Neither) → r ≡ sided_fault_at track plans sides (i + 1)
-  unfolding sided_fault_at
-  sided_at sides r e = simp nth_at e
+-- The box at index i among the first n, by the plans and the sides in pairs.
+abbrev pub sided_pair : Track → ℕ × (BoxPlan × StemSide) → Bool
+sided_pair track (i, (p, side)) = sided_fault track (i + 1) p side
+
+pub sided_at : (track : Track) (plans : List BoxPlan) (sides : List StemSide) (n i : ℕ) → n ≤ length plans → n ≤ length sides → i < n
+    → sided_pair track (get_or (enumerate_from 0 (zip (take n plans) sides)) i (0, (no_box_plan, Neither)))
+    ≡ sided_fault_at track plans sides (i + 1)
+unfolding sided_fault_at
+sided_at track plans sides n i h k l =
+    let pairs = zip (take n plans) sides in
+    let within : i < length pairs = omega (arith, length-zip (take n plans) sides, length-take-le n plans h) in
+    rw (
+      get_or-enumerate_from 0 pairs i (0, (no_box_plan, Neither)) within,
+      get_or-zip (take n plans) sides i (no_box_plan, Neither) (omega (arith, length-take-le n plans h)) (omega arith),
+      get_or-take n plans i no_box_plan l,
+      nth_at,
+      nth_at,
+      zero-add,
+    )

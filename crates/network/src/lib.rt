@@ -35,8 +35,8 @@ pub fn runs_against(d: u8, way: u8) -> bool
 fn ends_faulty(m: u8, s: u8, columns: &Columns) -> bool
     ensures { result ≡ ends_fault m (track_in columns.now.a columns.now.b) s }
 {
-    let x = columns.a[s as usize];
-    let y = columns.b[s as usize];
+    let x = columns.a[usize::from(s)];
+    let y = columns.b[usize::from(s)];
     outside(m, x) || outside(m, y) || x == y
 }
 
@@ -45,7 +45,7 @@ fn ends_faulty(m: u8, s: u8, columns: &Columns) -> bool
 fn segment_faulty(m: u8, s: u8, columns: &Columns) -> bool
     ensures { result ≡ segment_fault m (track_in columns.now.a columns.now.b) (way_in columns.now.ways) s }
 {
-    ends_faulty(m, s, columns) || columns.ways[s as usize] > 2
+    ends_faulty(m, s, columns) || columns.ways[usize::from(s)] > 2
 }
 
 // Code 6: some segment has an end at no box, both ends at one box, or a way that there is not.
@@ -88,7 +88,7 @@ fn some_plan_faulty(n: u8, m: u8, plans: &[BoxPlan; 96]) -> bool
     ensures few { result ≡ false → m ≤ 96 }
 {
     // Box 97 has no plan: it reads as one with segment 0 at its stem, which is at fault.
-    let Some(plans) = plans.get(..m as usize) else {
+    let Some(plans) = plans.get(..usize::from(m)) else {
         return true;
     };
     plans.iter().any(|p| plan_faulty(n, *p))

@@ -14,9 +14,9 @@ use rules::{BoxPlan, StemSide};
 fn stem_side(number: u8, s: u8, columns: &Columns) -> StemSide
     ensures { result ≡ stem_side (track_in columns.now.a columns.now.b) number s }
 {
-    if columns.a[s as usize] == number {
+    if columns.a[usize::from(s)] == number {
         StemSide::AEnd
-    } else if columns.b[s as usize] == number {
+    } else if columns.b[usize::from(s)] == number {
         StemSide::BEnd
     } else {
         StemSide::Neither
@@ -30,8 +30,8 @@ pub(crate) fn stem_sides(m: u8, plans: &[BoxPlan; 96], columns: &Columns) -> [St
     ensures { result ≡ filled 96 StemSide.Neither (list_of m (stem_side_at (track_in columns.now.a columns.now.b) plans.now)) }
 {
     let mut sides = [StemSide::Neither; 96];
-    for i in 0..m {
-        sides[i as usize] = stem_side(i + 1, plans[i as usize].stem, columns);
+    for (i, plan) in plans[..usize::from(m)].iter().enumerate() {
+        sides[i] = stem_side(i as u8 + 1, plan.stem, columns);
     }
     sides
 }
@@ -41,7 +41,7 @@ pub(crate) fn stem_sides(m: u8, plans: &[BoxPlan; 96], columns: &Columns) -> [St
 fn branch_away(number: u8, s: u8, ends: &[u8; 256]) -> bool
     ensures { result ≡ branch_away (λ x. get_or ends.now x 0) number s }
 {
-    s != 0 && ends[s as usize] != number
+    s != 0 && ends[usize::from(s)] != number
 }
 
 // The same of the left or the right of a box.
@@ -74,7 +74,15 @@ pub(crate) fn some_listing_faulty(
     requires { m ≤ 96 }
     ensures { result ≡ any_of m (sided_fault_at (track_in columns.now.a columns.now.b) plans.now sides.now) }
 {
-    (0..m).any(|i| listing_faulty(i + 1, plans[i as usize], sides[i as usize], columns))
+    // As slices, whose length the proof knows.
+    let plans: &[BoxPlan] = plans;
+    let sides: &[StemSide] = sides;
+    plans[..usize::from(m)].iter().zip(sides).enumerate().any(|(i, (p, side))| listing_faulty(
+        i as u8 + 1,
+        *p,
+        *side,
+        columns,
+    ))
 }
 
 // How many places these boxes have: a border one, a link two, a point three.
@@ -92,5 +100,5 @@ pub(crate) fn some_unlisted(n: u8, m: u8, plans: &[BoxPlan; 96]) -> bool
     requires { m ≤ 96 }
     ensures { result ≡ not (eqb (place_count m plans.now) (2 * n)) }
 {
-    places(&plans[..m as usize]) != 2 * u16::from(n)
+    places(&plans[..usize::from(m)]) != 2 * u16::from(n)
 }

@@ -23,7 +23,7 @@ fn stem_side(number: u8, s: u8, columns: &Columns) -> StemSide
     }
 }
 
-// The stem sides of boxes 1 .. m, each worked out once. By index here and below: a box's number, its plan and its side go by it.
+// The stem sides of boxes 1 .. m, each worked out once.
 #[tactic(auto, using(rules::proofs::Rows::fill_none, rules::proofs::Rows::fill_more, crate::proofs::Sides::side_at))]
 pub(crate) fn stem_sides(m: u8, plans: &[BoxPlan; 96], columns: &Columns) -> [StemSide; 96]
     requires { m ≤ 96 }
@@ -74,15 +74,10 @@ pub(crate) fn some_listing_faulty(
     requires { m ≤ 96 }
     ensures { result ≡ any_of m (sided_fault_at (track_in columns.now.a columns.now.b) plans.now sides.now) }
 {
-    // As slices, whose length the proof knows.
-    let plans: &[BoxPlan] = plans;
-    let sides: &[StemSide] = sides;
-    plans[..usize::from(m)].iter().zip(sides).enumerate().any(|(i, (p, side))| listing_faulty(
-        i as u8 + 1,
-        *p,
-        *side,
-        columns,
-    ))
+    plans[..usize::from(m)].iter().zip(sides).enumerate().any(|(i, (p, side))| {
+        let number = i as u8 + 1;
+        listing_faulty(number, *p, *side, columns)
+    })
 }
 
 // How many places these boxes have: a border one, a link two, a point three.

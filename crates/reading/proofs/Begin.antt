@@ -124,16 +124,19 @@ module _ (track : Track) (plans : List BoxPlan) (trains : List TrainPlan) (route
       let p = plan_of b in
       rw (holder_elsewhere b p.stem e, holder_elsewhere b p.left e, holder_elsewhere b p.right e)
 
-  -- A turn over the train, where `all` are the boxes before it, s its first segment and x the box ahead: one box changes, or none
-  -- where x is no box of the table.
+  -- A turn over the train, one of the first k, where `all` are the boxes before it, s its first segment and x the box ahead: one box
+  -- changes, or none where x is no box of the table.
   module _
-      {m : ℕ} {all : List SwitchBox} {s x : ℕ}
+      (k : ℕ) {m : ℕ} {all : List SwitchBox} {s x : ℕ}
       (few : m ≤ 96)
+      (listed : j < length (take k trains))
       (before : all ≡ boxes_after m track plans trains routes j)
       (first : s ≡ first_of)
-      (ahead : x ≡ far_box track (get_or trains j no_train_plan).direction s) where
+      (ahead : x ≡ far_box track (get_or (take k trains) j no_train_plan).direction s) where
     ahead-is : x ≡ ahead_of
-    ahead-is = ahead ∙ rw (first, nth_at)
+    ahead-is =
+        let low : j < k = omega (arith, length-take k trains) in
+        ahead ∙ rw (first, nth_at, get_or-take k trains j no_train_plan low)
 
     pub turn_here :
         outside m x ≡ false →
@@ -145,10 +148,10 @@ module _ (track : Track) (plans : List BoxPlan) (trains : List TrainPlan) (route
         let (low, high) = (outside-false_iff m x).0 e in
         let up : x ≡ b + 1 = omega arith in
         let inside : b < m = omega arith in
-        let listed : b < length (list_of m (box_with j)) = simp list_length (omega arith) in
+        let room : b < length (list_of m (box_with j)) = simp list_length (omega arith) in
         let old : get_or all b no_box ≡ box_with j (b + 1) = rw before (filled_list_at (box_with j) no_box 96 m b inside (omega arith)) in
         rw (old, before, first, sym (nth_at plans b no_box_plan), box_here_lem (b + 1) (sym ahead-is ∙ up))
-        (set-filled 96 no_box _ _ b (omega arith) listed)
+        (set-filled 96 no_box _ _ b (omega arith) room)
         ∙ ap (λ (l : List SwitchBox). filled 96 no_box l)
         (list_set m (box_with j) (box_with (j + 1)) no_box b inside
         (λ i _ q. box_elsewhere (i + 1) (λ r. q (let f : x ≡ i + 1 = ahead-is ∙ r in omega arith))))

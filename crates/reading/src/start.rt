@@ -44,7 +44,7 @@ fn free_boxes(m: u8, plans: &[BoxPlan; 96]) -> [SwitchBox; 96]
     all
 }
 
-// The boxes, with the first segment of each train reserved at the box ahead of it. By index: a train's number, plan and route go by it.
+// The boxes, with the first segment of each train reserved at the box ahead of it.
 #[tactic(auto, using(crate::proofs::Begin::none_yet, crate::proofs::Begin::turn_here, crate::proofs::Begin::turn_nowhere), unfolding(rules::specs::Rows::outside))]
 pub(crate) fn boxes(table: &Table, columns: &Columns) -> [SwitchBox; 96]
     requires m_bound { table.now.m ≤ 96 }
@@ -52,13 +52,12 @@ pub(crate) fn boxes(table: &Table, columns: &Columns) -> [SwitchBox; 96]
     ensures { result ≡ boxes_after table.now.m (track_in columns.now.a columns.now.b) table.now.boxes table.now.trains table.now.routes table.now.k }
 {
     let mut all = free_boxes(table.m, &table.boxes);
-    for i in 0..table.k {
-        let plan = table.trains[i as usize];
-        let number = i + 1;
+    for (i, plan) in table.trains[..usize::from(table.k)].iter().enumerate() {
+        let number = i as u8 + 1;
         let first = placing::segment_at(&table.routes, number, 1);
         let ahead = columns.far(plan.direction, first);
         if !network::outside(table.m, ahead) {
-            let at = (ahead - 1) as usize;
+            let at = usize::from(ahead - 1);
             all[at] = switchbox::set_holder(table.boxes[at], all[at], first, number);
         }
     }

@@ -1,6 +1,7 @@
 -- Where the records of a file stand, and that they are within a whole file.
-use Rattle.std.proofs.Common.{ℕ, zero, suc, ◌+◌, ◌-◌, ◌*◌, ◌^◌, ◌≤◌, ◌<◌, min, ◌≡◌, refl, sym, ◌∙◌, ap, Bool, true, false, cond, List, length, get_or, take, drop, replicate, length-drop, get_or-drop, drop-drop, add-one, mul-le-mul_left, mul-le-mul_right, arith}
+use Rattle.std.proofs.Common.{ℕ, zero, suc, ◌+◌, ◌-◌, ◌*◌, ◌/◌, ◌^◌, ◌≤◌, ◌<◌, min, ◌≡◌, refl, sym, ◌∙◌, ap, Bool, true, false, cond, List, [], length, get_or, take, drop, replicate, length-take, length-drop, get_or-take, get_or-drop, drop-drop, add-one, mul-le-mul_left, mul-le-mul_right, arith}
 use borrow.Rule.Slice.PartMut.{put_mid}
+use Rattle.std.specs.Simd.{first_chunks}
 use Rattle.rules.specs.Network.{has_ways}
 use Rattle.rules.specs.File.{decode, segment_size, box_size, train_size, byte_at, version_in, segment_count, box_count, train_count}
 use Rattle.rules.specs.File.{segment_start, box_start, trains_from, train_start, route_start, file_length, segment_from, segment_in, plan_in, train_plan_in, route_in}
@@ -26,6 +27,13 @@ size_high v = by (has_ways v)
 -- So many of them as a byte counts are within 765 bytes.
 sizes_near : (v n : ℕ) → n < 2 ^ 8 → (segment_size v ≤ 3) × (n * segment_size v ≤ 765)
 sizes_near v n low = (size_high v, let most = mul-le-mul_left n (size_high v) in omega arith)
+
+-- Byte j of chunk i, of a list cut into chunks of five.
+chunk_at : (l : List ℕ) (k i j : ℕ) → i < k → j < 5 → get_or (get_or (first_chunks 5 k l) i []) j 0 ≡ get_or l (5 * i + j) 0
+chunk_at l zero i j h low = absurd (omega arith)
+chunk_at l (suc k) zero j h low = get_or-take 5 l j 0 low ∙ ap (λ (o : ℕ). get_or l o 0) (omega arith)
+chunk_at l (suc k) (suc i) j h low =
+    chunk_at (drop 5 l) k i j (omega arith) low ∙ get_or-drop 5 l (5 * i + j) 0 ∙ ap (λ (o : ℕ). get_or l o 0) (omega arith)
 
 module _ (bytes : List ℕ) where
   -- Where the records begin, by the numbers of the head and the sizes of the records.
@@ -109,20 +117,48 @@ module _ (bytes : List ℕ) where
     pub box_room : from + 5 * box_count bytes ≤ length bytes
     box_room = omega (arith, a.place, boxes_place, whole-boxes a.whole)
 
-    pub box_here : (i : ℕ) →
-        let at = from + 5 * i in
-        record {
-          kind = get_or bytes at 0;
-          stem = get_or bytes (at + 1) 0;
-          left = get_or bytes (at + 2) 0;
-          right = get_or bytes (at + 3) 0;
-          position = get_or bytes (at + 4) 0;
-        }
-        ≡ plan_in bytes (i + 1)
-    unfolding plan_in byte_at
-    box_here i =
-        let e : box_start bytes (i + 1) ≡ from + 5 * i = omega (arith, box_at i, box_at 0, a.place) in
-        rw e
+    -- The part of the file that they are, cut into chunks of five.
+    module _ (m : ℕ) (e : m ≡ box_count bytes) where
+      abbrev part : List ℕ
+      part = take (from + 5 * m - from) (drop from bytes)
+
+      pub box_chunks : length part / 5 ≡ box_count bytes
+      box_chunks = simp (length-take, length-drop) (omega (arith, e, box_room))
+
+      box_byte : (i j : ℕ) → i < box_count bytes → j < 5
+          → get_or (get_or (first_chunks 5 (length part / 5) part) i []) j 0 ≡ get_or bytes (from + 5 * i + j) 0
+      box_byte i j h low =
+          let near : 5 * i + j < from + 5 * m - from = omega (arith, e) in
+          chunk_at part (length part / 5) i j (omega (arith, box_chunks)) low
+          ∙ get_or-take (from + 5 * m - from) (drop from bytes) (5 * i + j) 0 near
+          ∙ get_or-drop from bytes (5 * i + j) 0
+          ∙ ap (λ (o : ℕ). get_or bytes o 0) (omega arith)
+
+      pub box_here : (chunks : List (List ℕ)) (i : ℕ) → chunks ≡ first_chunks 5 (length part / 5) part → i < box_count bytes →
+          let record_at = get_or chunks i [] in
+          record {
+            kind = get_or record_at 0 0;
+            stem = get_or record_at 1 0;
+            left = get_or record_at 2 0;
+            right = get_or record_at 3 0;
+            position = get_or record_at 4 0;
+          }
+          ≡ plan_in bytes (i + 1)
+      unfolding plan_in byte_at
+      box_here chunks i is h =
+          let place : box_start bytes (i + 1) ≡ from + 5 * i = omega (arith, box_at i, box_at 0, a.place) in
+          let first : from + 5 * i + 0 ≡ from + 5 * i = omega arith in
+          rw (
+            is,
+            box_byte i 0 h (omega arith),
+            box_byte i 1 h (omega arith),
+            box_byte i 2 h (omega arith),
+            box_byte i 3 h (omega arith),
+            box_byte i 4 h (omega arith),
+            first,
+            place,
+          )
+          refl
 
   -- A train record by the place at which it begins: its bytes, its route, and where the next one begins.
   module _ (i at : ℕ) (e : at ≡ trains_from bytes i) where
@@ -198,7 +234,7 @@ module _ (bytes : List ℕ) where
 -- What the loops over a file's records go by: what is within the file, and what is read there.
 pub ruleset rooms = (whole_long, train_head, train_room, segment_room, box_room)
 
-pub ruleset records = (rooms, segment_here, box_here, train_here, trains_next, routes_none, routes_more, fill_none, fill_more)
+pub ruleset records = (rooms, segment_here, box_chunks, box_here, train_here, trains_next, routes_none, routes_more, fill_none, fill_more)
 
 -- What the readers go by: where the records begin, the table record of what is read, and the route of a train.
 pub ruleset of_routes = (route_place, route_at, route_room, route_is)

@@ -146,6 +146,6 @@ pub(crate) fn route(bytes: &[u8], number: u8) -> &[u8]
     ensures result_value { result.now ≡ route_in bytes.now number }
 {
     let rest = behind_trains(bytes, number - 1).left();
-    let end = 2 + rest[1] as usize;
+    let end = 2 + usize::from(rest[1]);
     &rest[2..end]
 }

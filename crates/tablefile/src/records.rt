@@ -1,5 +1,6 @@
-// The records of a file, by its bytes and the place at which they begin. Places of the arrays beyond them are 0. Each loop goes by the index
-// of a record, which its place follows from: records of segments have two bytes or three, and those of trains are as long as their routes.
+// The records of a file, by its bytes and the place at which they begin. Places of the arrays beyond them are 0. Box records are chunks of
+// five bytes; the other loops go by the index of a record, which its place follows from: records of segments have two bytes or three, and
+// those of trains are as long as their routes.
 #![tactic(auto, using(crate::proofs::Parts::records), unfolding(crate::specs::Whole::segments_of, crate::specs::Whole::boxes_of, crate::specs::Whole::trains_of, crate::specs::Whole::routes_of))]
 
 ghost use Rattle.std.specs.Prelude.{◌≡◌, ◌+◌, ◌*◌, ◌≤◌, ◌<◌, ◌^◌, eqb, length};
@@ -34,8 +35,8 @@ pub(crate) fn segments(bytes: &[u8], from: usize) -> [Segment; 96]
     ensures { result ≡ segments_of bytes.now }
 {
     let head = Head::of(bytes);
-    let n = head.n as usize;
-    let size = head.segment_size() as usize;
+    let n = usize::from(head.n);
+    let size = usize::from(head.segment_size());
     let mut all = [Segment::default(); 96];
     for i in 0..n {
         all[i] = segment(bytes, head.version, from + size * i);
@@ -48,16 +49,16 @@ pub(crate) fn boxes(bytes: &[u8], from: usize) -> [BoxPlan; 96]
     requires { AtBoxes bytes.now from }
     ensures { result ≡ boxes_of bytes.now }
 {
-    let m = Head::of(bytes).m as usize;
+    let m = usize::from(Head::of(bytes).m);
+    let (records, _) = bytes[from..from + 5 * m].as_chunks::<5>();
     let mut all = [BoxPlan::default(); 96];
-    for i in 0..m {
-        let at = from + 5 * i;
+    for (i, &[kind, stem, left, right, position]) in records.iter().enumerate() {
         all[i] = BoxPlan {
-            kind: bytes[at],
-            stem: bytes[at + 1],
-            left: bytes[at + 2],
-            right: bytes[at + 3],
-            position: bytes[at + 4],
+            kind,
+            stem,
+            left,
+            right,
+            position,
         };
     }
     all
@@ -68,7 +69,7 @@ pub(crate) fn trains(bytes: &[u8], from: usize) -> [TrainPlan; 16]
     requires { AtTrains bytes.now from }
     ensures { result ≡ trains_of bytes.now }
 {
-    let k = Head::of(bytes).k as usize;
+    let k = usize::from(Head::of(bytes).k);
     let mut all = [TrainPlan::default(); 16];
     let mut at = from;
     for i in 0..k {
@@ -77,7 +78,7 @@ pub(crate) fn trains(bytes: &[u8], from: usize) -> [TrainPlan; 16]
             direction: bytes[at],
             length,
         };
-        at += 2 + length as usize;
+        at += 2 + usize::from(length);
     }
     all
 }
@@ -88,11 +89,11 @@ pub(crate) fn routes(bytes: &[u8], from: usize) -> [u8; 1024]
     requires { AtTrains bytes.now from }
     ensures { result ≡ routes_of bytes.now }
 {
-    let k = Head::of(bytes).k as usize;
+    let k = usize::from(Head::of(bytes).k);
     let mut all = [0; 1024];
     let mut at = from;
     for i in 0..k {
-        let length = bytes[at + 1] as usize;
+        let length = usize::from(bytes[at + 1]);
         let kept = length.min(64);
         let route = &bytes[at + 2..at + 2 + kept];
         all[64 * i..64 * i + kept].copy_from_slice(route);
@@ -106,7 +107,7 @@ pub(crate) fn after(at: usize, size: u8, count: u8) -> usize
     requires { at < 2 ^ 32 }
     ensures { result ≡ at + size * count }
 {
-    at + (size as usize) * (count as usize)
+    at + usize::from(size) * usize::from(count)
 }
 
 // Byte i of a file, 0 past its end.
@@ -125,7 +126,7 @@ pub(crate) fn after_trains(bytes: &[u8], from: usize, count: u8) -> usize
 {
     let mut at = from;
     for _ in 0..count {
-        at += 2 + byte_at(bytes, at + 1) as usize;
+        at += 2 + usize::from(byte_at(bytes, at + 1));
     }
     at
 }

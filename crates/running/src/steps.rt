@@ -1,18 +1,19 @@
 // Steps of three bytes, one after the other.
-ghost use Rattle.std.specs.Prelude.{◌≡◌, ◌-◌, ◌≤◌, ◌<◌, ◌++◌, length, drop};
+ghost use Rattle.std.specs.Prelude.{◌≡◌, ◌-◌, ◌≤◌, ◌<◌, ◌++◌, length, drop, get_or};
 ghost use Rattle.rules.specs.declared.Line.{Line};
 ghost use Rattle.rules.specs.Steps.{step};
 ghost use Rattle.rules.specs.History.{line_after};
 ghost use Rattle.rules.specs.Safety.{StaysSound};
 ghost use Rattle.rules.specs.Run.{whole_steps, step_count, answers_from};
 ghost use Rattle.traincomputer.specs.Sight.{around_in};
-ghost use Rattle.running.specs.Loop.{Kept, Seen, step_answer};
+ghost use Rattle.rules.specs.Line.{no_train};
+ghost use Rattle.running.specs.Loop.{Kept, Seen, no_around, step_answer};
 
 use columns::Columns;
 use deciding::moves::{clear, enter};
 use deciding::requests::answer;
 use deciding::{alone, check_form};
-use rules::{Around, Line, StepError, SwitchBox};
+use rules::{Around, Line, StepError, SwitchBox, Train};
 use std::marker::Model;
 use traincomputer::sight::around;
 use traincomputer::{Computer, message_box};
@@ -55,6 +56,17 @@ fn views(line: &Line, columns: &Columns) -> [Around; 16]
     all
 }
 
+// What the computer of the train at this index knows.
+fn computer(seen: &[Around; 16], trains: &[Train; 16], i: usize) -> Computer
+    requires { i < 16 }
+    ensures { result ≡ record { around = get_or seen.now i no_around; train = get_or trains.now i no_train } }
+{
+    Computer {
+        around: seen[i],
+        train: trains[i],
+    }
+}
+
 impl Moving {
     fn new(line: Line) -> Moving
         requires { StaysSound line }
@@ -87,45 +99,45 @@ impl Moving {
                     return Err(StepError::NothingUnderWay);
                 }
                 let j = index::<96>(asked);
-                let computer = Computer {
-                    around: self.seen[i],
-                    train: self.line.trains[i],
-                };
-                let done = answer(computer, self.line.table.boxes[j], self.line.boxes[j])?;
+                let done = answer(
+                    computer(&self.seen, &self.line.trains, i),
+                    self.line.table.boxes[j],
+                    self.line.boxes[j],
+                )?;
                 self.line.trains[i] = done.train;
                 self.line.boxes[j] = done.switchbox;
                 Ok(done.code)
             }
             5 => {
-                let computer = Computer {
-                    around: self.seen[i],
-                    train: self.line.trains[i],
-                };
-                let j = index::<96>(computer.around.ahead);
-                let done = enter(computer, self.line.boxes[j])?;
+                let j = index::<96>(self.seen[i].ahead);
+                let done = enter(
+                    computer(&self.seen, &self.line.trains, i),
+                    self.line.boxes[j],
+                )?;
                 self.line.trains[i] = done.train;
                 self.line.boxes[j] = done.switchbox;
                 self.seen[i] = around(train, done.train, &self.line.routes, &self.columns);
                 Ok(done.code)
             }
             6 => {
-                let computer = Computer {
-                    around: self.seen[i],
-                    train: self.line.trains[i],
-                };
-                let j = index::<96>(computer.around.passed);
-                let done = clear(computer, self.line.table.boxes[j], self.line.boxes[j])?;
+                let j = index::<96>(self.seen[i].passed);
+                let done = clear(
+                    computer(&self.seen, &self.line.trains, i),
+                    self.line.table.boxes[j],
+                    self.line.boxes[j],
+                )?;
                 self.line.trains[i] = done.train;
                 self.line.boxes[j] = done.switchbox;
                 self.seen[i] = around(train, done.train, &self.line.routes, &self.columns);
                 Ok(done.code)
             }
             _ => {
-                let computer = Computer {
-                    around: self.seen[i],
-                    train: self.line.trains[i],
-                };
-                let done = alone(kind, at, computer, SwitchBox::default())?;
+                let done = alone(
+                    kind,
+                    at,
+                    computer(&self.seen, &self.line.trains, i),
+                    SwitchBox::default(),
+                )?;
                 self.line.trains[i] = done.train;
                 Ok(done.code)
             }

@@ -1,12 +1,12 @@
 // Steps of three bytes, one after the other.
 ghost use Rattle.std.specs.Prelude.{◌≡◌, ◌-◌, ◌≤◌, ◌<◌, ◌++◌, length, drop, get_or};
 ghost use Rattle.rules.specs.declared.Line.{Line};
+ghost use Rattle.rules.specs.Line.{no_train};
 ghost use Rattle.rules.specs.Steps.{step};
 ghost use Rattle.rules.specs.History.{line_after};
 ghost use Rattle.rules.specs.Safety.{StaysSound};
 ghost use Rattle.rules.specs.Run.{whole_steps, step_count, answers_from};
 ghost use Rattle.traincomputer.specs.Sight.{around_in};
-ghost use Rattle.rules.specs.Line.{no_train};
 ghost use Rattle.running.specs.Loop.{Kept, Seen, no_around, step_answer};
 
 use columns::Columns;
@@ -99,21 +99,16 @@ impl Moving {
                     return Err(StepError::NothingUnderWay);
                 }
                 let j = index::<96>(asked);
-                let done = answer(
-                    computer(&self.seen, &self.line.trains, i),
-                    self.line.table.boxes[j],
-                    self.line.boxes[j],
-                )?;
+                let known = computer(&self.seen, &self.line.trains, i);
+                let done = answer(known, self.line.table.boxes[j], self.line.boxes[j])?;
                 self.line.trains[i] = done.train;
                 self.line.boxes[j] = done.switchbox;
                 Ok(done.code)
             }
             5 => {
                 let j = index::<96>(self.seen[i].ahead);
-                let done = enter(
-                    computer(&self.seen, &self.line.trains, i),
-                    self.line.boxes[j],
-                )?;
+                let known = computer(&self.seen, &self.line.trains, i);
+                let done = enter(known, self.line.boxes[j])?;
                 self.line.trains[i] = done.train;
                 self.line.boxes[j] = done.switchbox;
                 self.seen[i] = around(train, done.train, &self.line.routes, &self.columns);
@@ -121,23 +116,16 @@ impl Moving {
             }
             6 => {
                 let j = index::<96>(self.seen[i].passed);
-                let done = clear(
-                    computer(&self.seen, &self.line.trains, i),
-                    self.line.table.boxes[j],
-                    self.line.boxes[j],
-                )?;
+                let known = computer(&self.seen, &self.line.trains, i);
+                let done = clear(known, self.line.table.boxes[j], self.line.boxes[j])?;
                 self.line.trains[i] = done.train;
                 self.line.boxes[j] = done.switchbox;
                 self.seen[i] = around(train, done.train, &self.line.routes, &self.columns);
                 Ok(done.code)
             }
             _ => {
-                let done = alone(
-                    kind,
-                    at,
-                    computer(&self.seen, &self.line.trains, i),
-                    SwitchBox::default(),
-                )?;
+                let known = computer(&self.seen, &self.line.trains, i);
+                let done = alone(kind, at, known, SwitchBox::default())?;
                 self.line.trains[i] = done.train;
                 Ok(done.code)
             }

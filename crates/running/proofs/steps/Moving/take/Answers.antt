@@ -30,17 +30,20 @@ pub returns-in_err-done-in-3 : goal.returns-in_err-done-in-3
 returns-in_err-done-in-3 c =
     let g = going (goal.at.returns-in_err-done-in-3 c).After-index-i in
     let p = err_from_is_err_and c.from_residual-in_err-done-in-3.result c.from_residual-in_err-done-in-3.ensures.1 in
-    rw (p.1, p.2) (refuses g (answers g c.in-3.is c.message_box-asked.ensures c.if-asked-eq0.false c.index-j.ensures.value (rw c.computer.ensures at c.in_err-done-in-3.ensures)))
+    let done = rw c.computer-known.ensures at c.in_err-done-in-3.ensures in
+    rw (p.1, p.2) (refuses g (answers g c.in-3.is c.message_box-asked.ensures c.if-asked-eq0.false c.index-j.ensures.value done))
 
 pub invariant_of-self : goal.invariant_of-self
 invariant_of-self c =
     let g = going (goal.at.invariant_of-self c).After-index-i in
-    (answered g c.in-3.is c.message_box-asked.ensures c.if-asked-eq0.false c.index-j.ensures.value (rw c.computer.ensures at c.in_ok-done-in-3.ensures)).kept
+    let done = rw c.computer-known.ensures at c.in_ok-done-in-3.ensures in
+    (answered g c.in-3.is c.message_box-asked.ensures c.if-asked-eq0.false c.index-j.ensures.value done).kept
 
 pub returns-in_ok-done-in-3 : goal.returns-in_ok-done-in-3
 returns-in_ok-done-in-3 c =
     let g = going (goal.at.returns-in_ok-done-in-3 c).After-index-i in
-    (answered g c.in-3.is c.message_box-asked.ensures c.if-asked-eq0.false c.index-j.ensures.value (rw c.computer.ensures at c.in_ok-done-in-3.ensures)).is
+    let done = rw c.computer-known.ensures at c.in_ok-done-in-3.ensures in
+    (answered g c.in-3.is c.message_box-asked.ensures c.if-asked-eq0.false c.index-j.ensures.value done).is
 
 pub index-j-requires-in-5 : goal.index-j-requires-in-5
 index-j-requires-in-5 c =
@@ -52,17 +55,20 @@ pub returns-in_err-done-in-5 : goal.returns-in_err-done-in-5
 returns-in_err-done-in-5 c =
     let g = going (goal.at.returns-in_err-done-in-5 c).After-index-i in
     let p = err_from_is_err_and c.from_residual-in_err-done-in-5.result c.from_residual-in_err-done-in-5.ensures.1 in
-    rw (p.1, p.2) (refuses g (enters g c.in-5.is c.index-j-in-5.ensures.value (rw c.computer-in-5.ensures at c.in_err-done-in-5.ensures)))
+    let done = rw c.computer-known-in-5.ensures at c.in_err-done-in-5.ensures in
+    rw (p.1, p.2) (refuses g (enters g c.in-5.is c.index-j-in-5.ensures.value done))
 
 pub invariant_of-self-in-5 : goal.invariant_of-self-in-5
 invariant_of-self-in-5 c =
     let g = going (goal.at.invariant_of-self-in-5 c).After-index-i in
-    (entered g c.in-5.is c.index-j-in-5.ensures.value (rw c.computer-in-5.ensures at c.in_ok-done-in-5.ensures) c.around.ensures).kept
+    let done = rw c.computer-known-in-5.ensures at c.in_ok-done-in-5.ensures in
+    (entered g c.in-5.is c.index-j-in-5.ensures.value done c.around.ensures).kept
 
 pub returns-in_ok-done-in-5 : goal.returns-in_ok-done-in-5
 returns-in_ok-done-in-5 c =
     let g = going (goal.at.returns-in_ok-done-in-5 c).After-index-i in
-    (entered g c.in-5.is c.index-j-in-5.ensures.value (rw c.computer-in-5.ensures at c.in_ok-done-in-5.ensures) c.around.ensures).is
+    let done = rw c.computer-known-in-5.ensures at c.in_ok-done-in-5.ensures in
+    (entered g c.in-5.is c.index-j-in-5.ensures.value done c.around.ensures).is
 
 pub index-j-requires-in-6 : goal.index-j-requires-in-6
 index-j-requires-in-6 c =
@@ -74,30 +80,36 @@ pub returns-in_err-done-in-6 : goal.returns-in_err-done-in-6
 returns-in_err-done-in-6 c =
     let g = going (goal.at.returns-in_err-done-in-6 c).After-index-i in
     let p = err_from_is_err_and c.from_residual-in_err-done-in-6.result c.from_residual-in_err-done-in-6.ensures.1 in
-    rw (p.1, p.2) (refuses g (clears g c.in-6.is c.index-j-in-6.ensures.value (rw c.computer-in-6.ensures at c.in_err-done-in-6.ensures)))
+    let done = rw c.computer-known-in-6.ensures at c.in_err-done-in-6.ensures in
+    rw (p.1, p.2) (refuses g (clears g c.in-6.is c.index-j-in-6.ensures.value done))
 
 pub invariant_of-self-in-6 : goal.invariant_of-self-in-6
 invariant_of-self-in-6 c =
     let g = going (goal.at.invariant_of-self-in-6 c).After-index-i in
-    (cleared g c.in-6.is c.index-j-in-6.ensures.value (rw c.computer-in-6.ensures at c.in_ok-done-in-6.ensures) c.around-in-6.ensures).kept
+    let done = rw c.computer-known-in-6.ensures at c.in_ok-done-in-6.ensures in
+    (cleared g c.in-6.is c.index-j-in-6.ensures.value done c.around-in-6.ensures).kept
 
 pub returns-in_ok-done-in-6 : goal.returns-in_ok-done-in-6
 returns-in_ok-done-in-6 c =
     let g = going (goal.at.returns-in_ok-done-in-6 c).After-index-i in
-    (cleared g c.in-6.is c.index-j-in-6.ensures.value (rw c.computer-in-6.ensures at c.in_ok-done-in-6.ensures) c.around-in-6.ensures).is
+    let done = rw c.computer-known-in-6.ensures at c.in_ok-done-in-6.ensures in
+    (cleared g c.in-6.is c.index-j-in-6.ensures.value done c.around-in-6.ensures).is
 
 pub returns-in_err-done-in_default : goal.returns-in_err-done-in_default
 returns-in_err-done-in_default c =
     let g = going (goal.at.returns-in_err-done-in_default c).After-index-i in
     let p = err_from_is_err_and c.from_residual-in_err-done-in_default.result c.from_residual-in_err-done-in_default.ensures.1 in
-    rw (p.1, p.2) (refuses g (goes_alone g (λ e. omega arith) (λ e. omega arith) (λ e. omega arith) (search rules) (rw c.computer-in_default.ensures at c.in_err-done-in_default.ensures)))
+    let done = rw c.computer-known-in_default.ensures at c.in_err-done-in_default.ensures in
+    rw (p.1, p.2) (refuses g (goes_alone g (λ e. omega arith) (λ e. omega arith) (λ e. omega arith) (search rules) done))
 
 pub invariant_of-self-in_default : goal.invariant_of-self-in_default
 invariant_of-self-in_default c =
     let g = going (goal.at.invariant_of-self-in_default c).After-index-i in
-    (went_alone g (λ e. omega arith) (λ e. omega arith) (λ e. omega arith) (search rules) (rw c.computer-in_default.ensures at c.in_ok-done-in_default.ensures)).kept
+    let done = rw c.computer-known-in_default.ensures at c.in_ok-done-in_default.ensures in
+    (went_alone g (λ e. omega arith) (λ e. omega arith) (λ e. omega arith) (search rules) done).kept
 
 pub returns-in_ok-done-in_default : goal.returns-in_ok-done-in_default
 returns-in_ok-done-in_default c =
     let g = going (goal.at.returns-in_ok-done-in_default c).After-index-i in
-    (went_alone g (λ e. omega arith) (λ e. omega arith) (λ e. omega arith) (search rules) (rw c.computer-in_default.ensures at c.in_ok-done-in_default.ensures)).is
+    let done = rw c.computer-known-in_default.ensures at c.in_ok-done-in_default.ensures in
+    (went_alone g (λ e. omega arith) (λ e. omega arith) (λ e. omega arith) (search rules) done).is

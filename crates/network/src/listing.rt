@@ -1,4 +1,4 @@
-// Code 8: the segments that boxes list.
+// Code 8: the segments that boxes list. The number of boxes stands beside their plans, since the rules count by it (`any_of`, `place_count`).
 ghost use Rattle.std.specs.Prelude.{◌≡◌, not, ◌+◌, ◌*◌, ◌≤◌, eqb, length, get_or, sum_by};
 ghost use Rattle.rules.specs.Rows.{any_of, list_of, filled};
 ghost use Rattle.rules.specs.Track.{track_in};

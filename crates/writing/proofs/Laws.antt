@@ -1,10 +1,9 @@
 -- Laws of bytes written one after the other, of the lengths of a file's parts, and of what a table of code 0 has.
-use Rattle.std.proofs.Common.{ℕ, zero, suc, ◌+◌, ◌-◌, ◌*◌, ◌≤◌, ◌<◌, ◌≡◌, ◌≢◌, refl, sym, ap, ◌∙◌, Bool, true, false, cond, List, [], ◌∷◌, ◌++◌, append_assoc, length, get_or, take, drop, length-append, length-take, length-drop, get_or-take, get_or-drop, ext_get_or, sum_by, take_all, min, drop-drop, add-zero, zero-add, add-suc, add-one, arith, ltb, lt-ltb, le-ltb, ne_eqb}
+use Rattle.std.proofs.Common.{ℕ, zero, suc, ◌+◌, ◌-◌, ◌*◌, ◌≤◌, ◌<◌, ◌≡◌, ◌≢◌, refl, sym, ap, ◌∙◌, Bool, true, false, cond, List, [], ◌∷◌, ◌++◌, length, get_or, take, drop, length-append, length-take, length-drop, get_or-take, get_or-drop, ext_get_or, sum_by, take_all, min, add-zero, zero-add, add-suc, add-one, arith, ltb, lt-ltb, le-ltb, ne_eqb}
 use Rattle.std.proofs.Math.ListN.{get_or-eq_default}
 use Rattle.std.proofs.lemmas.List.Sums.{sum_by_more}
 use Rattle.std.proofs.Math.Decide.{dec_lt}
-use Rattle.std.proofs.Math.Seq.{sets, sets-eq}
-use borrow.Rule.Slice.PartMut.{put_mid}
+use Rattle.std.proofs.Math.Seq.{sets-eq}
 use Rattle.rules.specs.declared.Table.{Table}
 use Rattle.rules.specs.Ends.{Refusal}
 use Rattle.rules.specs.Rows.{◌if◌, list_of, join_of}
@@ -17,12 +16,6 @@ use Rattle.rules.proofs.Refusals.{code_of, table_coded, then_refused, then_hit, 
 use Rattle.rules.proofs.Rows.{nth_at, list_length, list_at, route_at_lem, join_none, join_more, sets_append}
 use Rattle.writing.specs.declared.pen.Pen.{Pen}
 use Rattle.writing.specs.Written.{Bounded, HasRoom, Written}
-
--- A part of a buffer that has become the bytes w: they are stored from its beginning on.
-pub stored : (d : List ℕ) {o w : List ℕ} (at : ℕ) → o ≡ w → at + length w ≤ length d → put_mid at (at + length w - at) d o ≡ sets d at w
-stored d {o} {w} at e h =
-    let n : at + length w - at ≡ length w = omega arith in
-    rw (n, sets-eq w d at h, e, drop-drop, append_assoc)
 
 -- Nothing written; two lists written one after the other.
 pub written_none : (p : Pen) → Written p [] p

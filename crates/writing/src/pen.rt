@@ -1,5 +1,6 @@
 // A lent buffer and the place in it up to which it is written. `put` writes all bytes or none, where std's writers on a slice write some.
-ghost use Rattle.std.specs.Prelude.{◌≡◌, ◌+◌, ◌<◌, length};
+ghost use Rattle.std.specs.Prelude.{◌≡◌, ◌+◌, ◌<◌, ◌≤◌, length};
+ghost use Rattle.std.proofs.lemmas.List.Edits.{sets};
 ghost use Rattle.writing.specs.Written.{HasRoom, Written};
 
 #[derive(Drop)]
@@ -25,8 +26,19 @@ impl<'a> Pen<'a> {
     {
         let end = self.at.saturating_add(bytes.len());
         if end <= self.buffer.len() {
-            self.buffer[self.at..end].copy_from_slice(bytes);
+            store(self.buffer, self.at, bytes);
             self.at = end;
         }
+    }
+}
+
+// Stores bytes from a place of the buffer on. It is no `copy_from_slice`, which calls `memmove`: of the C library `lineengine` needs `memcpy`
+// and `memset` alone.
+fn store(buffer: &mut [u8], at: usize, bytes: &[u8])
+    requires { at + length bytes.now ≤ length buffer.old }
+    ensures { buffer.new ≡ sets buffer.old at bytes.now }
+{
+    for (i, byte) in bytes.iter().enumerate() {
+        buffer[at + i] = *byte;
     }
 }

@@ -1,12 +1,14 @@
--- A whole file, its arrays, and codes 1 to 5.
-use Rattle.std.specs.Prelude.{ℕ, ◌≤◌, List, ◌≡◌, length}
+-- A whole file, its arrays, codes 1 to 5, and the table that they let through.
+use Rattle.std.specs.Prelude.{ℕ, ◌≤◌, cond, List, ◌≡◌, eqb, length}
+use Rattle.rules.specs.declared.Table.{Table}
 use Rattle.rules.specs.declared.Segment.{Segment}
 use Rattle.rules.specs.declared.BoxPlan.{BoxPlan}
 use Rattle.rules.specs.declared.TrainPlan.{TrainPlan}
 use Rattle.rules.specs.Rows.{first, list_of, join_of, filled}
 use Rattle.rules.specs.Track.{no_segment, no_box_plan, no_train_plan}
-use Rattle.rules.specs.File.{segment_count, box_count, train_count, file_length, early_rows}
+use Rattle.rules.specs.File.{segment_count, box_count, train_count, file_length, early_rows, decode}
 use Rattle.rules.specs.File.{segment_in, plan_in, train_plan_in, route_in}
+use Rattle.rules.specs.Line.{empty_table}
 
 -- The first of codes 1 to 5 that applies, or 0.
 unfoldable pub early_code : List ℕ → ℕ
@@ -34,3 +36,7 @@ routes_up_to bytes j = filled 1024 0 (join_of j (λ i. filled 64 0 (route_in byt
 
 unfoldable pub routes_of : List ℕ → List ℕ
 routes_of bytes = routes_up_to bytes (train_count bytes)
+
+-- The table record of a file that codes 1 to 5 let through, else the empty one.
+unfoldable pub table_in : List ℕ → Table
+table_in bytes = cond (eqb (early_code bytes) 0) (decode bytes) empty_table

@@ -3,7 +3,7 @@ ghost use Rattle.std.specs.Prelude.{◌≡◌, ◌≤◌, length, IfOk};
 ghost use Rattle.rules.specs.Placing.{without_place};
 ghost use Rattle.rules.specs.File.{marked, version_in, segment_size, segment_count, box_count, train_count, decode};
 ghost use Rattle.rules.specs.Errors.{refused};
-ghost use Rattle.tablefile.specs.Whole.{early_code};
+ghost use Rattle.tablefile.specs.Whole.{early_code, table_in};
 
 use crate::reader;
 use rules::{FileError, Table};
@@ -70,4 +70,11 @@ pub fn read_head(bytes: &[u8]) -> Result<Table, FileError>
         return Err(FileError::WrongLength);
     }
     Ok(reader::table(bytes))
+}
+
+// The table record of a file that codes 1 to 5 let through, else the empty one.
+pub fn table(bytes: &[u8]) -> Table
+    ensures { result ≡ table_in bytes.now }
+{
+    read_head(bytes).unwrap_or_default()
 }

@@ -1,5 +1,6 @@
 -- A step as the loop takes it: what it looks up and has decided is the step of `rules`, and what is kept of the line is kept.
 use Rattle.std.proofs.Common.{ℕ, suc, ◌-◌, ◌≤◌, ◌<◌, ◌≡◌, ◌≢◌, refl, sym, ◌∙◌, ap, true, false, List, arith, ne_eqb, get_or, set, length-set}
+use Rattle.rules.specs.declared.Table.{Table}
 use Rattle.rules.specs.declared.SwitchBox.{SwitchBox}
 use Rattle.rules.specs.declared.Train.{Train}
 use Rattle.rules.specs.declared.Line.{Line}
@@ -38,56 +39,82 @@ pub unknown : {k : Columns} {l m : Line} {seen : List Around} → Kept k l seen 
     → 0 ≡ first (form_rows s.kind s.box) → true ≡ outside l.table.k s.train → record { code = 14; line = m } ≡ step m s
 unknown {l = l} h view s passes out = rw (← view) (step_unknown l s ((form_row_iff _ _).0 (sym passes)) (sym out))
 
--- A step of the train at index i that these do not stop, of a line l with what is kept of it; it is the line m.
-pub record Going (k : Columns) (l m : Line) (seen : List Around) (s : Step) (i : ℕ) : Type 0 where
-  pub from : Kept k l seen
-  pub view : l ≡ m
+-- A step of the train at index i that these do not stop.
+pub record Taken (t : Table) (s : Step) (i : ℕ) : Type 0 where
   pub form : formed s.kind s.box ≡ true
-  pub inside : outside l.table.k s.train ≡ false
+  pub inside : outside t.k s.train ≡ false
   pub index : i ≡ s.train - 1
-
-pub goes : {k : Columns} {l m : Line} {seen : List Around} {s : Step} {i : ℕ} → Kept k l seen → l ≡ m
-    → 0 ≡ first (form_rows s.kind s.box) → false ≡ outside l.table.k s.train → i ≡ s.train - 1 → Going k l m seen s i
-goes h view passes there i-is =
-    record { from = h; view = view; form = (form_row_iff _ _).0 (sym passes); inside = sym there; index = i-is }
 
 -- The effect d of a step of the train at index i at box e: put back, it is the step.
 pub record Turned (l : Line) (s : Step) (i e : ℕ) (d : Effect) : Type 0 where
   pub is : apply l (suc i) e d ≡ step l s
+
+-- Such a step on a line that the record check passes.
+module _ (l : Line) (s : Step) (i : ℕ) (sound : record_fault l ≡ false) (w : Taken l.table s i) where
+  train_there : TrainOf l.table s.train
+  train_there = let number = (outside-false_iff _ _).0 w.inside in omega arith
+
+  numbered : s.train ≡ suc i
+  numbered = let low = train_there.low in omega (arith, w.index)
+
+  train_inside : (1 ≤ s.train) × (s.train ≤ 16)
+  train_inside =
+      let there = train_there in
+      let room = train_room l sound in
+      (there.low, omega arith)
+
+  pub train_read : get_or l.trains i no_train ≡ train_at l s.train
+  unfolding train_at nth
+  train_read = rw numbered refl
+
+  -- What is decided of the train, around which v stands, at box e is the step.
+  pub turned : (v : Around) → v ≡ around l s.train → (e : ℕ) (d : Effect) → e ≡ concerned_box s.kind v (get_or l.trains i no_train)
+      → d ≡ effect s.kind s.box v (get_or l.trains i no_train) (plan_at l.table e) (box_at l e) → Turned l s i e d
+  turned v v-is e d e-is d-is =
+      let box : e ≡ box_here l s = rw (v-is, train_read) at e-is in
+      let same : d ≡ effect_here l s = rw (box, v-is, train_read) at d-is in
+      record { is = rw (← numbered, same, box) (step_taken l s w.form w.inside) }
+
+-- Such a step of a line l with what is kept of it; it is the line m.
+pub record Going (k : Columns) (l m : Line) (seen : List Around) (s : Step) (i : ℕ) : Type 0 where
+  pub from : Kept k l seen
+  pub view : l ≡ m
+  pub taken : Taken l.table s i
+
+pub goes : {k : Columns} {l m : Line} {seen : List Around} {s : Step} {i : ℕ} → Kept k l seen → l ≡ m
+    → 0 ≡ first (form_rows s.kind s.box) → false ≡ outside l.table.k s.train → i ≡ s.train - 1 → Going k l m seen s i
+goes h view passes there i-is =
+    record { from = h; view = view; taken = record { form = (form_row_iff _ _).0 (sym passes); inside = sym there; index = i-is } }
 
 module _ {k : Columns} {l m : Line} {seen : List Around} {s : Step} {i : ℕ} (g : Going k l m seen s i) where
   checked : record_fault l ≡ false
   checked = sound_here l g.from.sound
 
   there : TrainOf l.table s.train
-  there = let number = (outside-false_iff _ _).0 g.inside in omega arith
+  there = train_there l s i checked g.taken
 
-  numbered : s.train ≡ suc i
-  numbered = let low = there.low in omega (arith, g.index)
+  here : s.train ≡ suc i
+  here = numbered l s i checked g.taken
 
   pub train_within : (1 ≤ s.train) × (s.train ≤ 16)
-  train_within =
-      let train = there in
-      let room = train_room l checked in
-      (train.low, omega arith)
+  train_within = train_inside l s i checked g.taken
 
   low : i < 16
-  low = omega (arith, train_within, numbered)
+  low = omega (arith, train_within, here)
 
   -- The train's record, and what stands around it.
   abbrev train : Train
   train = get_or l.trains i no_train
 
   read : train ≡ train_at l s.train
-  unfolding train_at nth
-  read = rw numbered refl
+  read = train_read l s i checked g.taken
 
   abbrev view : Around
   view = get_or seen i no_around
 
   viewed : view ≡ around l s.train
   unfolding around train_at nth
-  viewed = rw numbered (g.from.looked.is i low)
+  viewed = rw here (g.from.looked.is i low)
 
   -- The box ahead, the box passed and the box of a message are there.
   within : {e : ℕ} → BoxOf l.table.m e → (1 ≤ e) × (e ≤ 96)
@@ -102,13 +129,10 @@ module _ {k : Columns} {l m : Line} {seen : List Around} {s : Step} {i : ℕ} (g
   pub asked-within : (e : ℕ) → e ≡ message_box train.message → e ≢ 0 → (1 ≤ e) × (e ≤ 96)
   asked-within e e-is some = rw (e-is, read) (within (asked-there l checked _ there (rw (e-is, read) at some)))
 
-  -- What is decided of the train at box e is the step; here by the kind.
+  -- What is decided is the step, by the kind.
   decides : (e : ℕ) (d : Effect) → e ≡ concerned_box s.kind view train
       → d ≡ effect s.kind s.box view train (plan_at l.table e) (box_at l e) → Turned l s i e d
-  decides e d e-is d-is =
-      let box : e ≡ box_here l s = rw (viewed, read) at e-is in
-      let same : d ≡ effect_here l s = rw (box, viewed, read) at d-is in
-      record { is = rw (← numbered, same, box) (step_taken l s g.form g.inside) }
+  decides = turned l s i checked g.taken view viewed
 
   pub answers : {e j : ℕ} {d : Effect} → s.kind ≡ 3 → e ≡ message_box train.message → e ≢ 0 → j ≡ e - 1
       → d ≡ box_answers view train (get_or l.table.boxes j no_box_plan) (get_or l.boxes j no_box) train.message → Turned l s i (suc j) d
@@ -181,7 +205,7 @@ module _ {k : Columns} {l m : Line} {seen : List Around} {s : Step} {i : ℕ} (g
   moved : {j c : ℕ} {r : Train} {x : SwitchBox} {v : Around} → Turned l s i (suc j) (Changed c r x)
       → v ≡ around_in k.a k.b k.ways k.kinds l.routes s.train r → After c (set l.boxes j x) r (set seen i v)
   unfolding apply put_train put_box set_nth
-  moved z v-is = after z.is (seen-moved g.from.looked g.from.places i low _ _ (rw (g.from.shown, numbered) at v-is))
+  moved z v-is = after z.is (seen-moved g.from.looked g.from.places i low _ _ (rw (g.from.shown, here) at v-is))
 
   pub entered : {j c : ℕ} {r : Train} {x : SwitchBox} {v : Around} → s.kind ≡ 5 → j ≡ view.ahead - 1
       → Changed c r x ≡ enter view train (get_or l.boxes j no_box) → v ≡ around_in k.a k.b k.ways k.kinds l.routes s.train r

@@ -1,10 +1,10 @@
 -- Laws of numbers in decimal, and of lines written one after the other.
-use Rattle.std.proofs.Common.{ℕ, suc, ◌+◌, ◌-◌, ◌*◌, ◌/◌, ◌^◌, ◌≤◌, ◌<◌, ◌≡◌, sym, Bool, true, false, cond, List, [], ◌∷◌, ◌++◌, append_assoc, append-nil, length, length-append, get_or, get_or-take, take, take_all, map, flat_map, sum_by, arith, lit≤, lt-ltb, le-ltb}
+use Rattle.std.proofs.Common.{ℕ, refl, suc, ◌+◌, ◌-◌, ◌*◌, ◌/◌, ◌^◌, ◌≤◌, ◌<◌, ◌≡◌, sym, ◌∙◌, Bool, true, false, cond, List, [], ◌∷◌, ◌++◌, append_assoc, append-nil, length, length-append, get_or, get_or-take, take, drop, length-drop, replicate, take_all, map, flat_map, sum_by, arith, lit≤, lt-ltb, le-ltb}
 use Rattle.std.proofs.Math.Decide.{dec_lt}
 use Rattle.std.specs.Int.{div_ceil}
 use Rattle.std.specs.Fmt.{decimal as printed}
-use Rattle.std.proofs.lemmas.Fmt.{decimal_digit, decimal_step, length-decimal-le}
-use Rattle.std.proofs.lemmas.List.{flat_map_more, take_more}
+use Rattle.std.proofs.lemmas.Fmt.{decimal_digit, decimal_step, decimal_nonempty, length-decimal-le}
+use Rattle.std.proofs.lemmas.List.{flat_map_more, take_more, drop_more, drop_all, get_or-replicate}
 use Rattle.std.proofs.lemmas.List.Folds.{length-flat_map-take}
 use Rattle.std.proofs.lemmas.List.Concat.{length-flat_map}
 use Rattle.rules.specs.declared.Line.{Line}
@@ -19,9 +19,9 @@ use Rattle.writing.proofs.Laws.{written_append, written_join_none, written_join}
 use Rattle.printout.specs.Short.{Short, train_words, box_words}
 
 -- A number in decimal is what the library prints of it.
-one_digit : (x : ℕ) → x < 10 → decimal_in 1 x ≡ printed x
+last_digit : (x : ℕ) → x < 10 → decimal_in 1 x ≡ printed x
 unfolding decimal_in
-one_digit x h = rw (lt-ltb x 10 h) (sym (decimal_digit x h))
+last_digit x h = rw (lt-ltb x 10 h) (sym (decimal_digit x h))
 
 more_digits : (digits b : ℕ) → 10 * b ≤ 2 ^ 64 → ((x : ℕ) → x < b → decimal_in digits x ≡ printed x) → (x : ℕ) → x < 10 * b
     → decimal_in (suc digits) x ≡ printed x
@@ -35,10 +35,13 @@ more_digits digits b room same x h =
 pub printed_decimal : (x : ℕ) → x < 65536 → printed x ≡ decimal x
 unfolding decimal
 printed_decimal x h =
-    let two = more_digits 1 10 (lit≤ tt) one_digit in
+    let two = more_digits 1 10 (lit≤ tt) last_digit in
     let three = more_digits 2 100 (lit≤ tt) two in
     let four = more_digits 3 1000 (lit≤ tt) three in
     sym (more_digits 4 10000 (lit≤ tt) four x (omega arith))
+
+pub one_digit : (x : ℕ) → x < 10 → decimal x ≡ (48 + x) ∷ []
+one_digit x h = sym (printed_decimal x (omega arith)) ∙ decimal_digit x h
 
 -- Its length.
 short_length : (n x : ℕ) → 0 < n → x < 10 ^ n → x < 65536 → length (decimal x) ≤ n
@@ -46,6 +49,31 @@ short_length n x h k l = rw (← printed_decimal x l) (length-decimal-le n x h k
 
 pub byte_length : (x : ℕ) → x < 256 → length (decimal x) ≤ 3
 byte_length x h = short_length 3 x (omega arith) (omega arith) (omega arith)
+
+-- The digits of a number, put at the end of five bytes.
+pub count_fits : (x : ℕ) → x < 65536 → length (printed x) ≤ 5
+count_fits x h = length-decimal-le 5 x (omega arith) (omega arith) (omega arith)
+
+pub count_digits : (x s : ℕ) (v w : List ℕ) → x < 65536 → length v ≡ 5 → length w ≡ 5 → drop s w ≡ printed x ++ drop 5 v
+    → take (5 - s) (drop s w) ≡ decimal x
+count_digits x s v w h before after digits =
+    let none : drop 5 v ≡ [] = drop_all 5 v (omega (arith, before)) in
+    let all : drop s w ≡ decimal x = rw (none, append-nil, printed_decimal x h) at digits in
+    rw (take_all (5 - s) (drop s w) (omega (arith, length-drop s w))) all
+
+-- Those of a byte, put at the end of four spaces, with the space before them.
+pub number_fits : (x : ℕ) → x < 256 → (0 < length (printed x)) × (length (printed x) ≤ 3)
+number_fits x h = (decimal_nonempty x (omega arith), length-decimal-le 3 x (omega arith) (omega arith) (omega arith))
+
+pub number_digits : (x s : ℕ) (w : List ℕ) → x < 256 → length w ≡ 4 → s + length (printed x) ≡ 4 → drop s w ≡ printed x ++ []
+    → take s w ≡ take s (replicate 4 32) → take (4 - (s - 1)) (drop (s - 1) w) ≡ 32 ∷ decimal x
+number_digits x s w h four size digits spaces =
+    let fits = number_fits x h in
+    let next : s - 1 + 1 ≡ s = omega arith in
+    let tail : drop s w ≡ decimal x = rw (append-nil, printed_decimal x (omega arith)) at digits in
+    let here : get_or w (s - 1) 0 ≡ 32 =
+    sym (get_or-take s w (s - 1) 0 (omega arith)) ∙ rw spaces (get_or-take s (replicate 4 32) (s - 1) 0 (omega arith) ∙ get_or-replicate 4 (s - 1) 32 0 (omega arith)) in
+    rw (take_all (4 - (s - 1)) (drop (s - 1) w) (omega (arith, length-drop (s - 1) w)), drop_more w (s - 1) 0 (omega arith), here, next, tail) refl
 
 -- A word, and numbers with a space before each.
 pub line_words : (w xs : List ℕ) → text_line (w ∷ map decimal xs) ≡ w ++ flat_map (λ x. 32 ∷ decimal x) xs ++ (10 ∷ [])

@@ -8,18 +8,33 @@ ghost use Rattle.rules.specs.Printout.{bytes_of, decimal, text_line, step_line, 
 ghost use Rattle.writing.specs.Written.{HasRoom, Written};
 ghost use Rattle.printout.specs.Short.{Short, tail_in, train_words, box_words};
 
-use itoa::Buffer;
+use itoa::write_digits;
 use rules::{FileError, Line, SwitchBox, Train};
 use writing::Pen;
 
-// A space and a number, by `itoa`: of a `write!` no clause says that it is `Ok`.
-#[tactic(auto, using(crate::proofs::Laws::printed_decimal, writing::proofs::Laws::written_append))]
+// A number's digits, by `itoa`, at the end of five bytes: of a `write!` no clause says that it is `Ok`, and a `Buffer` of `itoa` has 40
+// bytes, which take longer to clear than the digits to write.
+#[tactic(auto, using(crate::proofs::Laws::count_fits, crate::proofs::Laws::printed_decimal))]
+fn digits(x: u16, bytes: &mut [u8; 5]) -> &[u8]
+    ensures text { result.now ≡ decimal x }
+    ensures short { length result.now ≤ 5 }
+{
+    let from = write_digits(u64::from(x), bytes, 5);
+    &bytes[from..]
+}
+
+// A space and a number, put together, so that the room is asked for once. Most numbers have one digit, which needs no division.
+#[tactic(auto, using(crate::proofs::Laws::one_digit, crate::proofs::Laws::number_fits))]
 fn put_number(x: u8, pen: &mut Pen)
     requires { HasRoom pen.old (length (decimal x) + 1) }
     ensures { Written pen.old (32 ∷ decimal x) pen.new }
 {
-    pen.put(b" ");
-    pen.put(Buffer::new().format(x).as_bytes());
+    if x < 10 {
+        return pen.put(&[b' ', b'0' + x]);
+    }
+    let mut word = [b' '; 4];
+    let from = write_digits(u64::from(x), &mut word, 4);
+    pen.put(&word[from - 1..]);
 }
 
 // A line: a word, and numbers after it.
@@ -37,7 +52,7 @@ fn put_line(word: &[u8], numbers: &[u8], pen: &mut Pen)
 
 // The line of step i + 1, whose code this is. Of a last step of one or two bytes, a missing byte is 0: by the bytes' places, as `step_line_of`
 // has it.
-#[tactic(auto, using(crate::proofs::Laws::three_fit, crate::proofs::Laws::printed_decimal), unfolding(rules::specs::Printout::step_line))]
+#[tactic(auto, using(crate::proofs::Laws::three_fit), unfolding(rules::specs::Printout::step_line))]
 fn put_step_line(steps: &[u8], i: usize, code: u8, pen: &mut Pen)
     requires i_bound { i < 65535 }
     requires room { HasRoom pen.old 18 }
@@ -45,12 +60,7 @@ fn put_step_line(steps: &[u8], i: usize, code: u8, pen: &mut Pen)
 {
     let kind = steps.get(3 * i).copied().unwrap_or(0);
     let train = steps.get(3 * i + 1).copied().unwrap_or(0);
-    let count = i as u16 + 1;
-    put_line(
-        Buffer::new().format(count).as_bytes(),
-        &[kind, train, code],
-        pen,
-    );
+    put_line(digits(i as u16 + 1, &mut [0; 5]), &[kind, train, code], pen);
 }
 
 // The lines of all steps, whose codes these are.

@@ -14,7 +14,7 @@ pub returns-then-answers-count : goal.returns-then-answers-count
 returns-then-answers-count c =
     let end = run_short _ _ _ c.in-Ok.ensures c.count.ensures c.if-answers-count.true in
     record {
-      value = c.code-then-answers-count.ensures ∙ ap (λ (o : FileOutcome). o.refusal.code) end.outcome;
+      value = rw c.code-then-answers-count.ensures (ap (λ (o : FileOutcome). o.refusal.code) end.outcome);
       answers_after = end.buffer;
     }
 
